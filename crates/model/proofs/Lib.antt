@@ -1,0 +1,6 @@
+-- The theory about the definitions.
+pub mod Table
+pub mod Order
+pub mod Residual
+pub mod Seek
+pub mod Check

@@ -1,0 +1,225 @@
+-- 01's table: P1 to P9 as one theorem about the definitions, and the small inputs of the refusal table as another.
+-- Each side computes, so each proof is `refl`. Assumes nothing.
+use mathlib.Core.Path.{_≡_, refl}
+use mathlib.Core.List.{List, [], _∷_, _++_, map}
+use Prim.Native.Nat.{ℕ, _+_, _-_}
+use lib.ListN.{replicate, length}
+use Rattle.model.specs.declared.Reply.{Reply}
+use Rattle.model.specs.declared.Reply.the-variants.{Member, Finished, Yes, No}
+use Rattle.model.specs.Outcome.{Outcome, refused, accepted, Sent, sent, over}
+use Rattle.model.specs.Lists
+use Rattle.model.specs.Expression.{Tree, leaf, difference, union, intersection, Members, one, more, size, sizes, count}
+use Rattle.model.specs.Sets
+use Rattle.model.specs.Machine.{Call, next, check, call, calls, draw, reply, machine, encode}
+use Rattle.model.specs.Steps
+use Rattle.model.specs.Run
+use Rattle.model.specs.Run.{Result, run, run-of}
+use Rattle.model.specs.Fields
+use Rattle.model.specs.Forms
+use Rattle.model.specs.Forms.{row, packed, read-row, read-packed}
+use Rattle.model.specs.Delivery
+use Rattle.model.specs.Delivery.{delivery, read-delivery}
+use Rattle.model.specs.Calls.{unpack, pack, decode, encode-lists, run-call, ends-from}
+use Rattle.model.specs.Program.{halves, Listing, listing}
+
+-- L0 to L3 of the report's figures 1 to 3
+abbrev pub figures : List (List ℕ)
+figures = (0 ∷ 1 ∷ 2 ∷ 5 ∷ 6 ∷ 8 ∷ 9 ∷ []) ∷ (0 ∷ 2 ∷ 3 ∷ 4 ∷ 5 ∷ []) ∷ (2 ∷ 3 ∷ 6 ∷ 8 ∷ 9 ∷ []) ∷ (0 ∷ 1 ∷ 2 ∷ 3 ∷ 7 ∷ 9 ∷ []) ∷ []
+
+abbrev pub all-four : Members
+all-four = more (leaf 0) (more (leaf 1) (more (leaf 2) (one (leaf 3))))
+
+abbrev members : List ℕ → List Reply
+members = map Member
+
+-- a run, and what it is to give: the places up to the last that is not 0
+pub record Row : Type 0 where
+  pub lists : List (List ℕ)
+  pub tree : Tree
+  pub bookmark : ℕ
+  pub calls : List Call
+  pub replies : List Reply
+  pub last : ℕ
+  pub moves : ℕ
+  pub places : List ℕ
+
+abbrev P1 : Row
+P1 = record {
+  lists = figures;
+  tree = difference (leaf 0) (leaf 3);
+  bookmark = 0;
+  calls = replicate 4 next;
+  replies = members (5 ∷ 6 ∷ 8 ∷ []) ++ (Finished ∷ []);
+  last = 4294967296;
+  moves = 12;
+  places = 0 ∷ 7 ∷ 5 ∷ [];
+}
+
+abbrev P2 : Row
+P2 = record {
+  lists = figures;
+  tree = difference (leaf 0) (leaf 3);
+  bookmark = 0;
+  calls = next ∷ [];
+  replies = Member 5 ∷ [];
+  last = 6;
+  moves = 7;
+  places = 0 ∷ 3 ∷ 4 ∷ [];
+}
+
+abbrev P2-from-6 : Row
+P2-from-6 = record {
+  lists = figures;
+  tree = difference (leaf 0) (leaf 3);
+  bookmark = 6;
+  calls = replicate 3 next;
+  replies = Member 6 ∷ Member 8 ∷ Finished ∷ [];
+  last = 4294967296;
+  moves = 12;
+  places = 0 ∷ 7 ∷ 5 ∷ [];
+}
+
+abbrev P3 : Row
+P3 = record {
+  lists = figures;
+  tree = union all-four;
+  bookmark = 0;
+  calls = replicate 11 next;
+  replies = members (0 ∷ 1 ∷ 2 ∷ 3 ∷ 4 ∷ 5 ∷ 6 ∷ 7 ∷ 8 ∷ 9 ∷ []) ++ (Finished ∷ []);
+  last = 4294967296;
+  moves = 23;
+  places = 0 ∷ 7 ∷ 5 ∷ 5 ∷ 6 ∷ [];
+}
+
+abbrev P4 : Row
+P4 = record {
+  lists = figures;
+  tree = intersection all-four;
+  bookmark = 0;
+  calls = next ∷ [];
+  replies = Member 2 ∷ [];
+  last = 3;
+  moves = 5;
+  places = 0 ∷ 2 ∷ 1 ∷ 0 ∷ 2 ∷ [];
+}
+
+abbrev P4-finished : Row
+P4-finished = record {
+  lists = figures;
+  tree = intersection all-four;
+  bookmark = 0;
+  calls = replicate 2 next;
+  replies = Member 2 ∷ Finished ∷ [];
+  last = 4294967296;
+  moves = 13;
+  places = 0 ∷ 4 ∷ 5 ∷ 2 ∷ 2 ∷ [];
+}
+
+abbrev P5 : Row
+P5 = record {
+  lists = (5 ∷ []) ∷ (5 ∷ []) ∷ [];
+  tree = intersection (more (leaf 0) (one (leaf 1)));
+  bookmark = 0;
+  calls = check 3 ∷ next ∷ [];
+  replies = No ∷ Member 5 ∷ [];
+  last = 6;
+  moves = 0;
+  places = [];
+}
+
+abbrev P6 : Row
+P6 = record {
+  lists = (5 ∷ []) ∷ [];
+  tree = leaf 0;
+  bookmark = 0;
+  calls = check 5 ∷ check 5 ∷ next ∷ check 5 ∷ [];
+  replies = Yes ∷ Yes ∷ Member 5 ∷ No ∷ [];
+  last = 6;
+  moves = 0;
+  places = [];
+}
+
+abbrev P7 : Row
+P7 = record {
+  lists = (4294967295 ∷ []) ∷ [];
+  tree = leaf 0;
+  bookmark = 0;
+  calls = replicate 2 next;
+  replies = Member 4294967295 ∷ Finished ∷ [];
+  last = 4294967296;
+  moves = 1;
+  places = 1 ∷ [];
+}
+
+abbrev pub runs : List Row
+runs = P1 ∷ P2 ∷ P2-from-6 ∷ P3 ∷ P4 ∷ P4-finished ∷ P5 ∷ P6 ∷ P7 ∷ []
+
+-- what the plain machine and the steps give for a row, and what the row says they give
+abbrev pub computed : Row → (List Reply × ℕ) × Result
+computed r = (machine (r .lists) (r .tree) (r .bookmark) (r .calls), run (r .lists) (r .tree) (r .bookmark) (r .calls))
+
+abbrev pub stated : Row → (List Reply × ℕ) × Result
+stated r = (
+  (r .replies, r .last),
+  record { replies = r .replies; moves = r .moves; places = r .places ++ replicate (48 - length (r .places)) 0; bookmark = r .last },
+)
+
+-- P8, read and written: bytes, and the tree that they are over two lists
+abbrev pub expressions : List (List ℕ × Tree)
+expressions = (0x40 ∷ 0x01 ∷ [], difference (leaf 0) (leaf 1)) ∷ (0x88 ∷ 0x00 ∷ 0x20 ∷ [], union (more (leaf 0) (one (leaf 1)))) ∷ []
+
+-- P9, read and written: bytes, and the lists that they are
+abbrev pub deliveries : List (List ℕ × List (List ℕ))
+deliveries =
+    (0x04 ∷ 0x00 ∷ 0x0C ∷ 0x00 ∷ 0x00 ∷ 0x00 ∷ 0x08 ∷ 0x08 ∷ [], (2 ∷ 3 ∷ 5 ∷ []) ∷ []) ∷
+    (0x04 ∷ 0x00 ∷ 0x00 ∷ [], [] ∷ []) ∷ []
+
+-- P1 to P9
+pub record Papers : Type 0 where
+  pub P1-to-P7 : map computed runs ≡ map stated runs
+  pub P8-read : map (λ e. read-packed 2 (e .0)) expressions ≡ map (λ e. accepted (e .1)) expressions
+  pub P8-written : map (λ e. packed (e .1)) expressions ≡ map (λ e. e .0) expressions
+  pub P9-read : map (λ d. read-delivery 3 1 (d .0)) deliveries ≡ map (λ d. accepted (d .1)) deliveries
+  pub P9-written : map (λ d. delivery (d .1)) deliveries ≡ map (λ d. d .0) deliveries
+
+pub papers : Papers
+unfolding machine reply draw Sets.least-from Sets.least Sets.lower Sets.concat Sets.member Sets.among size run Run.begin Run.steps Run.step Run.drawn Run.told Steps.seek Steps.test Steps.read Steps.answer Steps.passed Steps.fuel Steps.differ Steps.unite Steps.follow Steps.intersect Steps.is-at Steps.turned Steps.on-yes Steps.on-no read-packed Forms.read-tree Forms.read-below Forms.read-members Forms.take-node Forms.take-kind Fields.take-field Fields.bits Fields.field Fields.value Fields.bit Fields.only-fill Fields.zeros packed Forms.packed-nodes Forms.packed-node Forms.nodes Fields.bytes Fields.fill count read-delivery Delivery.read-lists Delivery.read-list Delivery.read-body Delivery.read-later Delivery.read-gaps Delivery.width Delivery.width-from Delivery.largest-gap Lists.count-holds delivery Delivery.lists-bits Delivery.list-bits Delivery.body-bits Delivery.gap-bits
+papers = record { P1-to-P7 = refl; P8-read = refl; P8-written = refl; P9-read = refl; P9-written = refl }
+
+abbrev eight-of-list-0 : List ℕ
+eight-of-list-0 = 136 ∷ replicate 8 0
+
+-- the refusal table's small inputs in its order, 1 to 14, each with a lent row of 7s
+abbrev pub refused-inputs : List Sent
+refused-inputs =
+    unpack [] 1 lent ∷
+    pack (136 ∷ (eight-of-list-0 ++ eight-of-list-0 ++ eight-of-list-0 ++ eight-of-list-0 ++ eight-of-list-0 ++ replicate 3 0)) 1 lent ∷
+    unpack (0x84 ∷ 0x21 ∷ 0x08 ∷ 0x42 ∷ 0x10 ∷ 0x84 ∷ 0x21 ∷ 0x00 ∷ 0x00 ∷ []) 1 lent ∷
+    unpack (0x02 ∷ []) 1 lent ∷
+    unpack (0x01 ∷ []) 1 lent ∷
+    decode (0x04 ∷ 0x00 ∷ 0x0C ∷ 0x00 ∷ 0x00 ∷ 0x00 ∷ 0x08 ∷ 0x08 ∷ []) lent lent ∷
+    decode (0x00 ∷ []) lent lent ∷
+    decode (0x04 ∷ 0x00 ∷ 0x0B ∷ 0xFF ∷ 0xFF ∷ 0xFF ∷ 0xFC ∷ 0x00 ∷ []) lent lent ∷
+    decode (0x04 ∷ 0x00 ∷ 0x08 ∷ 0x00 ∷ 0x00 ∷ 0x00 ∷ 0x08 ∷ 0x20 ∷ []) lent lent ∷
+    encode-lists (2 ∷ 3 ∷ []) (2 ∷ 1 ∷ []) lent ∷
+    encode-lists (5 ∷ 5 ∷ []) (2 ∷ []) lent ∷
+    run-call (5 ∷ []) (1 ∷ []) (0x00 ∷ []) 4294967297 (0 ∷ []) (0 ∷ []) lent ∷
+    run-call (5 ∷ []) (1 ∷ []) (0x00 ∷ []) 0 (0 ∷ []) [] lent ∷
+    pack (32 ∷ []) 1 lent ∷ []
+  where
+    lent : List ℕ
+    lent = 7 ∷ 7 ∷ []
+
+abbrev pub refusal : ℕ → ℕ → ℕ → Sent
+refusal n parts rows = record { number = n; parts = replicate parts 0; rows = replicate rows (7 ∷ 7 ∷ []) }
+
+pub refusals : refused-inputs ≡
+    refusal 1 1 1 ∷ refusal 2 1 1 ∷ refusal 3 1 1 ∷ refusal 4 1 1 ∷ refusal 5 1 1 ∷ refusal 6 2 2 ∷ refusal 7 2 2 ∷ refusal 8 2 2 ∷ refusal 9 2 2 ∷
+    refusal 10 1 1 ∷ refusal 11 1 1 ∷ refusal 12 50 1 ∷ refusal 13 50 1 ∷ refusal 14 1 1 ∷ []
+unfolding sent over unpack pack decode encode-lists run-call run-of Run.source-of Lists.lists-of Lists.lists-from Lists.part Lists.ends-hold Lists.all-ascending Lists.ascending Lists.rises Lists.count-holds read-row Forms.take-byte Forms.node-of Forms.is-empty read-packed Forms.read-tree Forms.read-below Forms.read-members Forms.take-node Forms.take-kind Fields.take-field Fields.bits Fields.field Fields.value Fields.bit Fields.only-fill Fields.zeros read-delivery Delivery.read-lists Delivery.read-list Delivery.read-body Delivery.read-later Delivery.read-gaps Delivery.width Delivery.width-from Delivery.largest-gap
+refusals = refl
+
+-- the program's stored example: 01 00 04 00 0C 00 00 00 08 08
+pub example : listing (0x01 ∷ 0x00 ∷ 0x04 ∷ 0x00 ∷ 0x0C ∷ 0x00 ∷ 0x00 ∷ 0x00 ∷ 0x08 ∷ 0x08 ∷ []) ≡ accepted (record { members = 2 ∷ 3 ∷ 5 ∷ []; moves = 3 })
+unfolding listing halves Lists.count-holds read-packed Forms.read-tree Forms.read-below Forms.read-members Forms.take-node Forms.take-kind Fields.take-field Fields.bits Fields.field Fields.value Fields.bit Fields.only-fill Fields.zeros read-delivery Delivery.read-lists Delivery.read-list Delivery.read-body Delivery.read-later Delivery.read-gaps Delivery.width Delivery.width-from Delivery.largest-gap Sets.members-from Sets.select Sets.insert Sets.concat Sets.member Sets.among run Run.begin Run.steps Run.step Run.drawn Run.told Steps.seek Steps.read Steps.answer Steps.passed
+example = refl

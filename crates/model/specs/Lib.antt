@@ -1,0 +1,14 @@
+-- 01-scope.md as definitions, in its order. Nothing here is proved, and nothing here is assumed.
+pub mod Outcome
+pub mod Lists
+pub mod Expression
+pub mod Sets
+pub mod Machine
+pub mod Steps
+pub mod Run
+pub mod Fields
+pub mod Forms
+pub mod Delivery
+pub mod Calls
+pub mod Program
+pub mod Demands

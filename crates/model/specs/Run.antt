@@ -1,0 +1,77 @@
+-- "Generator steps", a run: each call gets the floor, places and moves that the call before it left.
+use mathlib.Core.Bool.{Bool, true, false, _&&_, cond}
+use mathlib.Core.List.{List, [], _∷_}
+use Prim.Native.Nat.{ℕ, suc, max}
+use lib.Dec.{ltb, leb, eqb}
+use lib.ListN.{length, replicate}
+use Rattle.model.specs.declared.Reply.{Reply}
+use Rattle.model.specs.declared.Reply.the-variants.{Member, Finished, Yes, No, Unknown}
+use Rattle.model.specs.Outcome.{Outcome, refused, accepted, _>>=_, _>>_, require}
+use Rattle.model.specs.Lists.{top, lists-of}
+use Rattle.model.specs.Expression.{Tree}
+use Rattle.model.specs.Machine.{Call, next, at-or-past, past, check, other, calls}
+use Rattle.model.specs.Steps.{Readers, Found, end, at, Checked, says, seek, test}
+use Rattle.model.specs.Forms.{read-packed}
+
+pub record State : Type 0 where
+  pub floor : ℕ
+  pub readers : Readers
+
+-- the whole expression's answer: a reply, and the state after it
+unfoldable pub drawn : Found → Reply × State
+drawn (end rs) = (Finished, record { floor = top; readers = rs })
+drawn (at x rs) = (Member x, record { floor = suc x; readers = rs })
+
+unfoldable pub told : ℕ → Checked → Reply × State
+told d (says b rs) = (cond b Yes No, record { floor = d; readers = rs })
+
+-- "Codes 0 to 2 seek the raised floor. Check with D below the floor moves nothing"
+unfoldable pub step : List (List ℕ) → Tree → State → Call → Reply × State
+step ls t s next = drawn (seek ls t 0 (s .floor) (s .readers))
+step ls t s (at-or-past d) = drawn (seek ls t 0 (max (s .floor) d) (s .readers))
+step ls t s (past d) = drawn (seek ls t 0 (max (s .floor) (suc d)) (s .readers))
+step ls t s (check d) = elim (ltb d (s .floor)) [ true ↦ (No, s) | false ↦ told d (test ls t 0 d (s .readers)) ]
+step ls t s other = (Unknown, s)
+
+unfoldable pub steps : List (List ℕ) → Tree → State → List Call → List Reply × State
+steps ls t s [] = ([], s)
+steps ls t s (c ∷ cs) =
+    let (r, after) = step ls t s c in
+    let (rs, last) = steps ls t after cs in
+    (r ∷ rs, last)
+
+-- "A run begins with the bookmark handed in as floor, every reader at place 0 and no moves"
+unfoldable pub begin : ℕ → State
+begin bookmark = record { floor = bookmark; readers = record { places = replicate 48 0; moves = 0 } }
+
+-- what a run hands back
+pub record Result : Type 0 where
+  pub replies : List Reply
+  pub moves : ℕ
+  pub places : List ℕ
+  pub bookmark : ℕ
+
+unfoldable pub run : List (List ℕ) → Tree → ℕ → List Call → Result
+run ls t bookmark cs =
+    let (rs, s) = steps ls t (begin bookmark) cs in
+    record { replies = rs; moves = s .readers .moves; places = s .readers .places; bookmark = s .floor }
+
+-- lists and expression, by what a run tests ahead of the bookmark: 7, 10, 11; 1 to 5
+pub record Source : Type 0 where
+  pub lists : List (List ℕ)
+  pub tree : Tree
+
+unfoldable pub source-of : List ℕ → List ℕ → List ℕ → Outcome Source
+source-of numbers ends expression = do
+  ls ← lists-of numbers ends
+  t ← read-packed (length ends) expression
+  accepted (record { lists = ls; tree = t })
+
+-- "A run takes, in this order of checking: lists [..], the packed expression [..], bookmark (12), row lengths (13)";
+-- `room` is the length of the lent reply row
+unfoldable pub run-of : List ℕ → List ℕ → List ℕ → ℕ → List ℕ → List ℕ → ℕ → Outcome Result
+run-of numbers ends expression bookmark codes ds room = do
+  s ← source-of numbers ends expression
+  require 12 (leb bookmark top)
+  require 13 (eqb (length codes) (length ds) && leb (length codes) room)
+  accepted (run (s .lists) (s .tree) bookmark (calls codes ds))

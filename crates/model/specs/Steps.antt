@@ -1,0 +1,143 @@
+-- "Generator steps": readers, seek and check (the report's A3 and A4). They know nothing of the set.
+use mathlib.Core.Bool.{Bool, true, false, not}
+use mathlib.Core.List.{List, [], _∷_}
+use Prim.Native.Nat.{ℕ, zero, suc, _+_, min}
+use lib.Dec.{ltb, eqb}
+use lib.ListN.{getD, set, drop}
+use Rattle.model.specs.Lists.{top}
+use Rattle.model.specs.Expression.{Tree, leaf, difference, union, intersection, Members, one, more, size}
+
+-- the readers of a run: one place for each node in expression order, and the moves made so far
+pub record Readers : Type 0 where
+  pub places : List ℕ
+  pub moves : ℕ
+
+-- what a seek answers, with the readers after it: finished, or a number
+pub data Found : Type 0 where
+  end : Readers → Found
+  at : ℕ → Readers → Found
+
+-- to seek to a number, from readers
+abbrev pub Seek : Type 0
+Seek = ℕ → Readers → Found
+
+-- goes on with what a seek answers
+abbrev pub on : Found → (Readers → Found) → (ℕ → Readers → Found) → Found
+on (end rs) f g = f rs
+on (at x rs) f g = g x rs
+
+-- "move while the place is inside the list and the number there is below E": how often, over what is left of the list
+unfoldable pub passed : List ℕ → ℕ → ℕ
+passed [] e = 0
+passed (x ∷ xs) e = elim (ltb x e) [ true ↦ suc (passed xs e) | false ↦ 0 ]
+
+-- "At the list's end it is finished, else it answers the number"
+unfoldable pub answer : List ℕ → Readers → Found
+answer [] rs = end rs
+answer (x ∷ xs) rs = at x rs
+
+-- A3(1), the reader of the node i over the list l; each move counts
+unfoldable pub read : List ℕ → ℕ → Seek
+read l i e rs =
+    let place = getD (rs .places) i 0 in
+    let n = passed (drop place l) e in
+    answer (drop (place + n) l) (record { places = set (rs .places) i (place + n); moves = rs .moves + n })
+
+-- how often a step may repeat: it repeats at a higher number, and no seek answers past 4,294,967,295
+unfoldable pub fuel : ℕ
+fuel = suc top
+
+-- A3(2), difference: "seek the first to E; finished ends it. Seek the second to that answer. If equal, E becomes the
+-- answer plus 1 and the step repeats; else the first's answer holds"
+unfoldable pub differ : ℕ → Seek → Seek → Seek
+differ zero first second e rs = end rs
+differ (suc n) first second e rs =
+    on (first e rs) end λ x rs₁.
+    on (second x rs₁) (at x) λ y rs₂.
+    elim (eqb x y) [ true ↦ differ n first second (suc x) rs₂ | false ↦ at x rs₂ ]
+
+-- A3(3), union, one member node and those after it: "Seek every member node to E, in order. The least answer holds;
+-- finished if all are"
+unfoldable pub unite : Seek → Seek → Seek
+unite first rest e rs =
+    on (first e rs) (rest e) λ x rs₁.
+    on (rest e rs₁) (at x) λ y rs₂.
+    at (min x y) rs₂
+
+-- A3(4), intersection, one member node after the first and those after it: the first answer above the candidate e, or
+-- e itself when the last has answered it; "Finished anywhere is finished"
+unfoldable pub follow : Seek → Seek → Seek
+follow first rest e rs =
+    on (first e rs) end λ x rs₁.
+    elim (ltb e x) [ true ↦ at x rs₁ | false ↦ rest e rs₁ ]
+
+-- the first member node and those after it: the first's answer becomes the candidate; "An answer above the candidate
+-- becomes the candidate, and unless it came from the first, begin again at the first"
+unfoldable pub intersect : ℕ → Seek → Seek → Seek
+intersect zero first rest e rs = end rs
+intersect (suc n) first rest e rs =
+    on (first e rs) end λ x rs₁.
+    on (rest x rs₁) end λ y rs₂.
+    elim (ltb x y) [ true ↦ intersect n first rest y rs₂ | false ↦ at x rs₂ ]
+
+-- "To seek to E": the node i, and the member nodes from i on
+unfoldable mutual
+  pub seek : List (List ℕ) → Tree → ℕ → Seek
+  seek ls (leaf k) i = read (getD ls k []) i
+  seek ls (difference s t) i = differ fuel (seek ls s (1 + i)) (seek ls t (1 + i + size s))
+  seek ls (union ts) i = seek-union ls ts (1 + i)
+  seek ls (intersection ts) i = seek-intersection ls ts (1 + i)
+
+  pub seek-union : List (List ℕ) → Members → ℕ → Seek
+  seek-union ls (one t) i = seek ls t i
+  seek-union ls (more t ts) i = unite (seek ls t i) (seek-union ls ts (i + size t))
+
+  pub seek-intersection : List (List ℕ) → Members → ℕ → Seek
+  seek-intersection ls (one t) i = seek ls t i
+  seek-intersection ls (more t ts) i = intersect fuel (seek ls t i) (seek-rest ls ts (i + size t))
+
+  pub seek-rest : List (List ℕ) → Members → ℕ → Seek
+  seek-rest ls (one t) i = seek ls t i
+  seek-rest ls (more t ts) i = follow (seek ls t i) (seek-rest ls ts (i + size t))
+
+-- what a check says, yes or no, with the readers after it
+pub data Checked : Type 0 where
+  says : Bool → Readers → Checked
+
+abbrev pub Check : Type 0
+Check = ℕ → Readers → Checked
+
+-- A4(1): "a reader seeks D, yes if it answers D"
+unfoldable pub is-at : ℕ → Found → Checked
+is-at d (end rs) = says false rs
+is-at d (at x rs) = says (eqb x d) rs
+
+-- "whose reply it turns round"
+unfoldable pub turned : Checked → Checked
+turned (says b rs) = says (not b) rs
+
+-- on yes the next is checked too, else no holds; on no the next is checked too, else yes holds
+unfoldable pub on-yes : Checked → (Readers → Checked) → Checked
+on-yes (says true rs) next = next rs
+on-yes (says false rs) next = says false rs
+
+unfoldable pub on-no : Checked → (Readers → Checked) → Checked
+on-no (says true rs) next = says true rs
+on-no (says false rs) next = next rs
+
+-- A4(2) to (4), "To check D": "A difference checks its first, and on yes its second, whose reply it turns round. A
+-- union checks in order until a yes, an intersection until a no"
+unfoldable mutual
+  pub test : List (List ℕ) → Tree → ℕ → Check
+  test ls (leaf k) i = λ d rs. is-at d (read (getD ls k []) i d rs)
+  test ls (difference s t) i = λ d rs. on-yes (test ls s (1 + i) d rs) (λ rs₁. turned (test ls t (1 + i + size s) d rs₁))
+  test ls (union ts) i = test-union ls ts (1 + i)
+  test ls (intersection ts) i = test-intersection ls ts (1 + i)
+
+  pub test-union : List (List ℕ) → Members → ℕ → Check
+  test-union ls (one t) i = test ls t i
+  test-union ls (more t ts) i = λ d rs. on-no (test ls t i d rs) (test-union ls ts (i + size t) d)
+
+  pub test-intersection : List (List ℕ) → Members → ℕ → Check
+  test-intersection ls (one t) i = test ls t i
+  test-intersection ls (more t ts) i = λ d rs. on-yes (test ls t i d rs) (test-intersection ls ts (i + size t) d)
