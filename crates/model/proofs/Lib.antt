@@ -4,3 +4,6 @@ pub mod Order
 pub mod Residual
 pub mod Seek
 pub mod Check
+pub mod Denoted
+pub mod Plain
+pub mod Join

@@ -1,0 +1,62 @@
+-- The plain machine: broken off and resumed, and drawn to the end. Its state is the floor alone. Assumes nothing.
+use mathlib.Core.Path.{_≡_, refl, ap, _∙_}
+use mathlib.Core.Bool.{true, false}
+use mathlib.Core.List.{List, [], _∷_, _++_, map}
+use Prim.Native.Nat.{ℕ, zero, suc, _+_, _≤_, _<_}
+use native.Mathlib.Omega.{arith}
+use native.Mathlib.Nat.{zero-add, suc-add}
+use borrow.Author.Tests.{ne-eqb, eq-eqb}
+use lib.ListN.{getD, length, replicate}
+use Rattle.model.specs.declared.Reply.{Reply}
+use Rattle.model.specs.declared.Reply.the-variants.{Member, Finished}
+use Rattle.model.specs.Lists.{top}
+use Rattle.model.specs.Expression.{Tree}
+use Rattle.model.specs.Sets.{among, member, members-from}
+use Rattle.model.specs.Machine.{Call, next, draw, reply, machine}
+use Rattle.model.proofs.Order.{Up, up-none}
+use Rattle.model.proofs.Denoted.{No-member, Least-member, least-from-none, least-from-some, members-up, members-above}
+
+module _ (ls : List (List ℕ)) (t : Tree) where
+  -- broken off anywhere and resumed from the bookmark: the same replies and the same last bookmark
+  pub machine-append : (cs ds : List Call) (b : ℕ) → machine ls t b (cs ++ ds)
+      ≡ (machine ls t b cs .0 ++ machine ls t (machine ls t b cs .1) ds .0, machine ls t (machine ls t b cs .1) ds .1)
+  unfolding machine reply
+  machine-append [] ds b = refl
+  machine-append (c ∷ cs) ds b = cc (machine-append cs ds (reply ls t b c .1))
+
+  pub draw-none : (b : ℕ) → No-member ls t b → draw ls t b ≡ (Finished, top)
+  unfolding draw
+  draw-none b h = rw (least-from-none ls t b h, draw)
+
+  pub draw-some : (b a : ℕ) → Least-member ls t b a → draw ls t b ≡ (Member a, suc a)
+  unfolding draw
+  draw-some b a h = rw (least-from-some ls t b a h, draw)
+
+  -- no member is left: finished, as often as asked
+  spent : (n b : ℕ) → b ≤ top → No-member ls t b → machine ls t b (replicate n next) .0 ≡ replicate n Finished
+  unfolding machine reply
+  spent zero b bt h = refl
+  spent (suc n) b bt h = rw (draw-none b h) (ap (λ (rs : List Reply). Finished ∷ rs) (spent n top (omega arith) (λ x q. h x (omega arith))))
+
+  -- ms are the members at or above the bookmark, ascending: so many nexts reply these, and each further one finished
+  drawn-by : (ms : List ℕ) (n b : ℕ) → b ≤ top → Up b ms → ((x : ℕ) → b ≤ x → member ls t x ≡ among x ms)
+      → machine ls t b (replicate (length ms + n) next) .0 ≡ map Member ms ++ replicate n Finished
+  unfolding machine reply among
+  drawn-by [] n b bt u h = rw (zero-add n) (spent n b bt (λ x q. h x q))
+  drawn-by (m ∷ ms) n b bt u h =
+      rw (suc-add (length ms) n, draw-some b m (record { from = u .0; is = is; gap = gap }))
+      (ap (λ (rs : List Reply). Member m ∷ rs) (drawn-by ms n (suc m) (omega (arith, u .1)) (u .2) later))
+    where
+      is : member ls t m ≡ true
+      is = cc (h m (u .0), eq-eqb m m refl)
+
+      gap : (x : ℕ) → b ≤ x → x < m → member ls t x ≡ false
+      gap x q q′ = h x q ∙ up-none m x (m ∷ ms) (omega arith, u .1, u .2) q′
+
+      later : (x : ℕ) → suc m ≤ x → member ls t x ≡ among x ms
+      later x q = cc (h x (omega (arith, u .0)), ne-eqb x m (λ r. omega arith))
+
+-- with m members at or above a bookmark the first m nexts reply these, ascending, and each further one finished
+pub draws : (ls : List (List ℕ)) → ((k : ℕ) → Up 0 (getD ls k [])) → (t : Tree) (b : ℕ) → b ≤ top → (n : ℕ)
+    → machine ls t b (replicate (length (members-from ls t b) + n) next) .0 ≡ map Member (members-from ls t b) ++ replicate n Finished
+draws ls up t b bt n = drawn-by ls t (members-from ls t b) n b bt (members-up ls up t b) (members-above ls up t b)
