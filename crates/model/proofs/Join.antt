@@ -10,7 +10,7 @@ use Prim.Native.Nat.{ℕ, suc, _+_, _≤_, _<_, max}
 use native.Mathlib.Omega.{arith}
 use lib.Dec.{ltb, leb}
 use borrow.Author.Tests.{ltb-true, ltb-false, le-leb, lt-leb}
-use lib.ListN.{getD, length, replicate, getD-replicate, List·getD-eq-default}
+use lib.ListN.{getD, length}
 use Rattle.model.specs.declared.Reply.{Reply}
 use Rattle.model.specs.declared.Reply.the-variants.{Yes, No}
 use Rattle.model.specs.Lists.{top}
@@ -19,19 +19,19 @@ use Rattle.model.specs.Sets.{member, member-some, member-all}
 use Rattle.model.specs.Machine.{Call, next, at-or-past, past, check, other, draw, reply, machine}
 use Rattle.model.specs.Steps.{Readers, Found, end, at, Checked, says, seek, test}
 use Rattle.model.specs.Run.{State, drawn, told, step, steps, begin, run}
-use Rattle.model.proofs.Order.{split, Up}
+use Rattle.model.proofs.Order.{Up, untouched, none-moved}
 use Rattle.model.proofs.Residual.{After, Sought, residual, residual-some, residual-all}
 use Rattle.model.proofs.Seek.{seek-is}
 use Rattle.model.proofs.Check.{Told, test-is}
 use Rattle.model.proofs.Plain.{draw-none, draw-some}
 
 -- readers at the start have everything left
-module _ (ls : List (List ℕ)) (ps : List ℕ) (none-moved : (k : ℕ) → getD ps k 0 ≡ 0) (x : ℕ) where
+module _ (ls : List (List ℕ)) (ps : List ℕ) (unmoved : (k : ℕ) → getD ps k 0 ≡ 0) (x : ℕ) where
   mutual
     unfolding member residual
 
     start : (t : Tree) (i : ℕ) → residual ls t i ps x ≡ member ls t x
-    start (leaf k) i = rw (none-moved i)
+    start (leaf k) i = rw (unmoved i)
     start (difference s t) i = cc (start s (1 + i), start t (1 + i + size s))
     start (union ts) i = some-start ts (1 + i)
     start (intersection ts) i = all-start ts (1 + i)
@@ -132,12 +132,6 @@ module _ (ls : List (List ℕ)) (up : (k : ℕ) → Up 0 (getD ls k [])) (t : Tr
   all-joined (c ∷ cs) h s o =
       let j = step-joined s o c (h .0) in
       joined-cons (step ls t s c) (reply ls t (s .floor) c) j cs (all-joined cs (h .1) (step ls t s c .1) (j .ok))
-
-  abbrev untouched : List ℕ
-  untouched = replicate 48 0
-
-  none-moved : (k : ℕ) → getD untouched k 0 ≡ 0
-  none-moved k = split (getD untouched k 0 ≡ 0) k 48 (λ lt. getD-replicate 48 k 0 0 lt) (λ ge. List·getD-eq-default untouched 0 ge)
 
   from-begin : (b : ℕ) → b ≤ top → size t ≤ 48 → (cs : List Call) → All-small cs → All-joined (steps ls t (begin b) cs) (machine ls t b cs)
   unfolding begin

@@ -7,3 +7,5 @@ pub mod Check
 pub mod Denoted
 pub mod Plain
 pub mod Join
+pub mod Places
+pub mod Accepted

@@ -5,7 +5,7 @@ use mathlib.Core.List.{List, [], _∷_}
 use Prim.Native.Nat.{ℕ, zero, suc, _≤_, _<_, min}
 use native.Mathlib.Omega.{arith}
 use lib.Dec.{ltb, T}
-use lib.ListN.{drop}
+use lib.ListN.{drop, getD, replicate, getD-replicate, List·getD-eq-default}
 use borrow.Author.Tests.{ltb-true, ltb-false, ne-eqb}
 use Rattle.model.specs.Lists.{top}
 use Rattle.model.specs.Sets.{among}
@@ -59,3 +59,10 @@ pub up-none : (lo x : ℕ) (l : List ℕ) → Up lo l → x < lo → among x l �
 unfolding among
 up-none lo x [] u h = refl
 up-none lo x (y ∷ ys) u h = cc (ne-eqb x y (λ q. omega (arith, u .0)), up-none (suc y) x ys (u .2) (omega (arith, u .0)))
+
+-- the places that a run begins with
+abbrev pub untouched : List ℕ
+untouched = replicate 48 0
+
+pub none-moved : (k : ℕ) → getD untouched k 0 ≡ 0
+none-moved k = split (getD untouched k 0 ≡ 0) k 48 (λ lt. getD-replicate 48 k 0 0 lt) (λ ge. List·getD-eq-default untouched 0 ge)
