@@ -9,3 +9,4 @@ pub mod Plain
 pub mod Join
 pub mod Places
 pub mod Accepted
+pub mod DemandThree

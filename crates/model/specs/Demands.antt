@@ -1,8 +1,17 @@
 -- What the theorems speak of, and demand 3 as one statement.
-use mathlib.Core.List.{List, [], _∷_, _++_}
+use mathlib.Core.Path.{_≡_}
+use mathlib.Core.Bool.{true, _&&_}
+use mathlib.Core.List.{List, [], _∷_, _++_, map}
 use Prim.Native.Nat.{ℕ, suc, _+_, _≤_, _<_}
-use lib.ListN.{length, getD}
+use lib.Dec.{leb}
+use lib.ListN.{length, getD, take, drop, replicate}
+use Rattle.model.specs.declared.Reply.the-variants.{Member, Finished}
+use Rattle.model.specs.Outcome.{accepted}
+use Rattle.model.specs.Lists.{ascending}
 use Rattle.model.specs.Expression.{Tree, leaf, difference, union, intersection, Members, one, more, size, depth, count}
+use Rattle.model.specs.Sets.{among, member}
+use Rattle.model.specs.Machine.{calls, machine}
+use Rattle.model.specs.Run.{Result, run, Source, source-of, run-of}
 
 -- the list numbers at the leaves: "One list may stand at several leaves"
 unfoldable mutual
@@ -49,3 +58,46 @@ pub record Expression (lists : ℕ) (t : Tree) : Type 0 where
   pub nodes : size t ≤ 48
   pub levels : depth t ≤ 12
   pub named : Named lists t
+
+-- ---- demand 3, in the customer's sentences, over any lists and expression that nobody changes meanwhile
+module _ (numbers ends expression : List ℕ) where
+  -- one run, accepted. "In every one of these runs the reported reader moves and places equal those of the steps in
+  -- document 01, and the moves never exceed the summed lengths of the lists at the expression's leaves"; a place never
+  -- passes its list's end, and is 0 at operators and unused nodes
+  pub record Ran (s : Source) (bookmark : ℕ) (codes ds : List ℕ) (room : ℕ) (r : Result) : Type 0 where
+    pub accepts : run-of numbers ends expression bookmark codes ds room ≡ accepted r
+    pub by-the-steps : r ≡ run (s .lists) (s .tree) bookmark (calls codes ds)
+    pub bounded : r .moves ≤ sum (lengths (s .lists) (s .tree))
+    pub summed : r .moves ≡ sum (r .places)
+    pub places : length (r .places) ≡ 48
+    pub inside : (i : ℕ) → getD (r .places) i 0 ≤ getD (lengths (s .lists) (s .tree)) i 0
+
+  -- "Next calls from that bookmark then hand out every member at or above it, ascending, exactly once, and after that
+  -- reply finished": as many nexts as there are such members, and n more
+  pub record Drawn (s : Source) (bookmark : ℕ) : Type 0 where
+    pub members : List ℕ
+    pub ascend : ascending members ≡ true
+    pub every : (x : ℕ) → among x members ≡ leb bookmark x && member (s .lists) (s .tree) x
+    pub result : ℕ → Result
+    pub ran : (n : ℕ) (ds : List ℕ) (room : ℕ) → length ds ≡ length members + n → length ds ≤ room
+        → Ran s bookmark (replicate (length members + n) 0) ds room (result n)
+    pub replies : (n : ℕ) → result n .replies ≡ map Member members ++ replicate n Finished
+
+  -- "Wherever between its calls, or at either end, such a list is broken off, the rest is taken up from the bookmark
+  -- handed back; both parts' replies, one after the other, and the last bookmark equal those of the list unbroken"
+  pub record Broken (s : Source) (bookmark : ℕ) (codes ds : List ℕ) (room : ℕ) (r : Result) (k : ℕ) : Type 0 where
+    pub first : Result
+    pub second : Result
+    pub first-ran : Ran s bookmark (take k codes) (take k ds) room first
+    pub second-ran : Ran s (first .bookmark) (drop k codes) (drop k ds) room second
+    pub replies : r .replies ≡ first .replies ++ second .replies
+    pub last : r .bookmark ≡ second .bookmark
+
+  -- "after it the replies, in order, and the bookmark are exactly those of document 01's plain machine", and the rest
+  pub record Demand-three (bookmark : ℕ) (codes ds : List ℕ) (room : ℕ) (r : Result) : Type 0 where
+    pub source : Source
+    pub is-source : source-of numbers ends expression ≡ accepted source
+    pub ran : Ran source bookmark codes ds room r
+    pub plain : (r .replies, r .bookmark) ≡ machine (source .lists) (source .tree) bookmark (calls codes ds)
+    pub drawn : Drawn source (r .bookmark)
+    pub broken : (k : ℕ) → Broken source bookmark codes ds room r k

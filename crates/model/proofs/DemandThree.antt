@@ -1,0 +1,205 @@
+-- Demand 3, proved: the join, the plain machine's two laws and the bounds, gathered for one accepted run.
+-- Assumes nothing but that the elements of the rows of numbers are numbers, which their type says.
+use mathlib.Core.Path.{_≡_, refl, sym, ap, _∙_}
+use mathlib.Core.Bool.{Bool, true, false, _&&_}
+use mathlib.Core.List.{List, [], _∷_, _++_, map}
+use Prim.Native.Nat.{ℕ, zero, suc, _+_, _≤_, _<_, min}
+use native.Mathlib.Omega.{arith}
+use lib.Dec.{leb, eqb}
+use borrow.Author.Tests.{leb-true, eqb-true, le-leb, eq-eqb}
+use lib.ListN.{getD, length, take, drop, replicate, length-take, length-drop, length-replicate}
+use Rattle.model.specs.declared.Reply.{Reply}
+use Rattle.model.specs.declared.Reply.the-variants.{Member, Finished}
+use Rattle.model.specs.Outcome.{Outcome, refused, accepted, _>>=_, _>>_, require}
+use Rattle.model.specs.Lists.{top, Numbers, lists-of}
+use Rattle.model.specs.Expression.{Tree, size}
+use Rattle.model.specs.Sets.{members-from}
+use Rattle.model.specs.Machine.{Call, next, call, calls, machine}
+use Rattle.model.specs.Run.{Result, run, begin, steps, Source, source-of, run-of}
+use Rattle.model.specs.Forms.{read-packed}
+use Rattle.model.specs.Demands.{lengths, sum, Ran, Drawn, Broken, Demand-three}
+use Rattle.model.proofs.Order.{and-true, Up}
+use Rattle.model.proofs.Denoted.{up-ascending, members-up, members-are}
+use Rattle.model.proofs.Plain.{machine-append, draws}
+use Rattle.model.proofs.Join.{Small, All-small, join, bookmark-low}
+use Rattle.model.proofs.Places.{sum-le, counted-run}
+use Rattle.model.proofs.Accepted.{bound, required, accepted-up, packed-reads}
+
+-- ---- calls
+
+small-call : (code d : ℕ) → d < top → Small (call code d)
+unfolding call
+small-call zero d h = tt
+small-call (suc zero) d h = h
+small-call (suc (suc zero)) d h = h
+small-call (suc (suc (suc zero))) d h = h
+small-call (suc (suc (suc (suc code)))) d h = tt
+
+small-calls : (codes ds : List ℕ) → Numbers ds → All-small (calls codes ds)
+unfolding calls
+small-calls [] ds h = tt
+small-calls (c ∷ cs) [] h = tt
+small-calls (c ∷ cs) (d ∷ ds) h = (small-call c d (h 0), small-calls cs ds (λ i. h (suc i)))
+
+small-append : (cs ds : List Call) → All-small (cs ++ ds) → All-small cs × All-small ds
+small-append [] ds h = (tt, h)
+small-append (c ∷ cs) ds h = let a = small-append cs ds (h .1) in ((h .0, a .0), a .1)
+
+small-nexts : (n : ℕ) → All-small (replicate n next)
+small-nexts zero = tt
+small-nexts (suc n) = (tt, small-nexts n)
+
+calls-split : (k : ℕ) (codes ds : List ℕ) → calls codes ds ≡ calls (take k codes) (take k ds) ++ calls (drop k codes) (drop k ds)
+unfolding calls
+calls-split zero codes ds = refl
+calls-split (suc k) [] ds = refl
+calls-split (suc k) (c ∷ cs) [] = sym (none (drop k cs))
+  where
+    none : (cs : List ℕ) → calls cs [] ≡ []
+    none [] = refl
+    none (c ∷ cs) = refl
+calls-split (suc k) (c ∷ cs) (d ∷ ds) = ap (λ (r : List Call). call c d ∷ r) (calls-split k cs ds)
+
+next-calls : (n : ℕ) (ds : List ℕ) → length ds ≡ n → calls (replicate n 0) ds ≡ replicate n next
+unfolding calls call
+next-calls zero ds h = refl
+next-calls (suc n) [] h = absurd (omega arith)
+next-calls (suc n) (d ∷ ds) h = ap (λ (r : List Call). next ∷ r) (next-calls n ds (omega arith))
+
+-- ---- a run and its tests
+
+record Accepted-run (numbers ends expression : List ℕ) (bookmark : ℕ) (codes ds : List ℕ) (room : ℕ) (r : Result) : Type 0 where
+  source : Source
+  is-source : source-of numbers ends expression ≡ accepted source
+  low : bookmark ≤ top
+  paired : length codes ≡ length ds
+  fits : length codes ≤ room
+  are : run (source .lists) (source .tree) bookmark (calls codes ds) ≡ r
+
+run-accepted : (numbers ends expression : List ℕ) (bookmark : ℕ) (codes ds : List ℕ) (room : ℕ) (r : Result)
+    → run-of numbers ends expression bookmark codes ds room ≡ accepted r → Accepted-run numbers ends expression bookmark codes ds room r
+unfolding run-of
+run-accepted numbers ends expression bookmark codes ds room r e =
+    let a = bound (source-of numbers ends expression) _ r e in
+    let b = required 12 (leb bookmark top) _ r (a .rest) in
+    let c = required 13 (eqb (length codes) (length ds) && leb (length codes) room) _ r (b .1) in
+    let d = and-true (eqb (length codes) (length ds)) (leb (length codes) room) (c .0) in
+    record {
+      source = a .got;
+      is-source = a .first;
+      low = leb-true bookmark top (b .0);
+      paired = eqb-true (length codes) (length ds) (d .0);
+      fits = leb-true (length codes) room (d .1);
+      are = cc (c .1);
+    }
+
+source-accepted : (numbers ends expression : List ℕ) (s : Source) → source-of numbers ends expression ≡ accepted s
+    → (lists-of numbers ends ≡ accepted (s .lists)) × (read-packed (length ends) expression ≡ accepted (s .tree))
+unfolding source-of
+source-accepted numbers ends expression s e =
+    let a = bound (lists-of numbers ends) _ s e in
+    let b = bound (read-packed (length ends) expression) _ s (a .rest) in
+    let q : record { lists = a .got; tree = b .got } ≡ s = cc (b .rest) in
+    (rw (← q) (a .first), rw (← q) (b .first))
+
+-- ---- over one source
+module _ (numbers ends expression : List ℕ) (n : Numbers numbers) (s : Source) (is : source-of numbers ends expression ≡ accepted s) where
+  up : (k : ℕ) → Up 0 (getD (s .lists) k [])
+  up = accepted-up numbers ends (s .lists) n (source-accepted numbers ends expression s is .0)
+
+  small : size (s .tree) ≤ 48
+  small = packed-reads (length ends) expression (s .tree) (source-accepted numbers ends expression s is .1) .nodes
+
+  accepts : (bookmark : ℕ) (codes ds : List ℕ) (room : ℕ) → bookmark ≤ top → length codes ≡ length ds → length codes ≤ room
+      → run-of numbers ends expression bookmark codes ds room ≡ accepted (run (s .lists) (s .tree) bookmark (calls codes ds))
+  unfolding run-of
+  accepts bookmark codes ds room h₁ h₂ h₃ = rw (is, le-leb bookmark top h₁, eq-eqb (length codes) (length ds) h₂, le-leb (length codes) room h₃)
+
+  ran : (bookmark : ℕ) (codes ds : List ℕ) (room : ℕ) → bookmark ≤ top → length codes ≡ length ds → length codes ≤ room
+      → Ran numbers ends expression s bookmark codes ds room (run (s .lists) (s .tree) bookmark (calls codes ds))
+  unfolding run
+  ran bookmark codes ds room h₁ h₂ h₃ =
+      let c = counted-run (s .lists) (s .tree) small bookmark (calls codes ds) in
+      record {
+        accepts = accepts bookmark codes ds room h₁ h₂ h₃;
+        by-the-steps = refl;
+        bounded = omega (arith, c .counted, sum-le (steps (s .lists) (s .tree) (begin bookmark) (calls codes ds) .1 .readers .places) (lengths (s .lists) (s .tree)) (c .within));
+        summed = c .counted;
+        places = c .long;
+        inside = c .within;
+      }
+
+  drawn : (bookmark : ℕ) → bookmark ≤ top → Drawn numbers ends expression s bookmark
+  drawn bookmark h = record {
+    members = ms;
+    ascend = up-ascending bookmark ms (members-up (s .lists) up (s .tree) bookmark);
+    every = members-are (s .lists) up (s .tree) bookmark;
+    result = λ k. run (s .lists) (s .tree) bookmark (replicate (length ms + k) next);
+    ran = λ k ds room h₁ h₂. rw (next-calls (length ms + k) ds h₁) at (ran bookmark (replicate (length ms + k) 0) ds room h (length-replicate (length ms + k) 0 ∙ sym h₁) (omega (arith, length-replicate (length ms + k) zero)));
+    replies = λ k. ap (λ p. p .0) (join (s .lists) up (s .tree) bookmark h small (replicate (length ms + k) next) (small-nexts (length ms + k))) ∙ draws (s .lists) up (s .tree) bookmark h k;
+  }
+    where
+      ms : List ℕ
+      ms = members-from (s .lists) (s .tree) bookmark
+
+  broken : (bookmark : ℕ) (codes ds : List ℕ) (room : ℕ) → Numbers ds → bookmark ≤ top → length codes ≡ length ds → length codes ≤ room → (k : ℕ)
+      → Broken numbers ends expression s bookmark codes ds room (run (s .lists) (s .tree) bookmark (calls codes ds)) k
+  broken bookmark codes ds room nd h₁ h₂ h₃ k =
+      record {
+        first = one;
+        second = two;
+        first-ran = ran bookmark (take k codes) (take k ds) room h₁ (omega (arith, length-take k codes, length-take k ds)) (omega (arith, length-take k codes));
+        second-ran = ran (one .bookmark) (drop k codes) (drop k ds) room low (omega (arith, length-drop k codes, length-drop k ds)) (omega (arith, length-drop k codes));
+        replies = ap (λ p. p .0) whole;
+        last = ap (λ p. p .1) whole;
+      }
+    where
+      ls : List (List ℕ)
+      ls = s .lists
+
+      t : Tree
+      t = s .tree
+
+      cs₁ : List Call
+      cs₁ = calls (take k codes) (take k ds)
+
+      cs₂ : List Call
+      cs₂ = calls (drop k codes) (drop k ds)
+
+      both : All-small (calls codes ds)
+      both = small-calls codes ds nd
+
+      parts : All-small cs₁ × All-small cs₂
+      parts = small-append cs₁ cs₂ (rw (← calls-split k codes ds) both)
+
+      one : Result
+      one = run ls t bookmark cs₁
+
+      low : one .bookmark ≤ top
+      low = bookmark-low ls up t bookmark h₁ small cs₁ (parts .0)
+
+      two : Result
+      two = run ls t (one .bookmark) cs₂
+
+      whole : _≡_ {A = List Reply × ℕ} (run ls t bookmark (calls codes ds) .replies, run ls t bookmark (calls codes ds) .bookmark) (one .replies ++ two .replies, two .bookmark)
+      whole =
+          join ls up t bookmark h₁ small (calls codes ds) both
+          ∙ ap (machine ls t bookmark) (calls-split k codes ds)
+          ∙ machine-append ls t cs₁ cs₂ bookmark
+          ∙ rw (← join ls up t bookmark h₁ small cs₁ (parts .0), ← join ls up t (one .bookmark) low small cs₂ (parts .1))
+
+-- demand 3, for every whole list of calls of a run that its tests accept
+pub demand-three : (numbers ends expression : List ℕ) (bookmark : ℕ) (codes ds : List ℕ) (room : ℕ) (r : Result) → Numbers numbers → Numbers ds
+    → run-of numbers ends expression bookmark codes ds room ≡ accepted r → Demand-three numbers ends expression bookmark codes ds room r
+demand-three numbers ends expression bookmark codes ds room r n nd e =
+    let a = run-accepted numbers ends expression bookmark codes ds room r e in
+    let s = a .source in
+    rw (← a .are) (record {
+      source = s;
+      is-source = a .is-source;
+      ran = ran numbers ends expression n s (a .is-source) bookmark codes ds room (a .low) (a .paired) (a .fits);
+      plain = join (s .lists) (up numbers ends expression n s (a .is-source)) (s .tree) bookmark (a .low) (small numbers ends expression n s (a .is-source)) (calls codes ds) (small-calls codes ds nd);
+      drawn = drawn numbers ends expression n s (a .is-source) (run (s .lists) (s .tree) bookmark (calls codes ds) .bookmark)
+        (bookmark-low (s .lists) (up numbers ends expression n s (a .is-source)) (s .tree) bookmark (a .low) (small numbers ends expression n s (a .is-source)) (calls codes ds) (small-calls codes ds nd));
+      broken = broken numbers ends expression n s (a .is-source) bookmark codes ds room nd (a .low) (a .paired) (a .fits);
+    })
