@@ -15,7 +15,7 @@ use Rattle.model.specs.Outcome.{Outcome, refused, accepted, _>>=_, _>>_,
 use Rattle.model.specs.Lists.{top, Numbers, rises, ascending, all-ascending, part, lists-from, lists-of, count-holds, ends-hold}
 use Rattle.model.specs.Expression.{Tree, leaf, difference, union, intersection, Members, one, more, size, sizes, depth, depths, count}
 use Rattle.model.specs.Fields.{bit, value, take-field, bits, only-fill}
-use Rattle.model.specs.Forms.{node-of, take-byte, take-kind, take-node, Reading, read-members, read-below, read-tree, is-empty, read-row, read-packed}
+use Rattle.model.specs.Forms.{node-of, take-byte, take-rest, take-kind, take-node, read-members, operator, read-below, read-tree, is-empty, read-row, read-packed}
 use Rattle.model.specs.Demands.{Named, Named-all, Expression}
 use Rattle.model.proofs.Order.{and-true, split, Up}
 
@@ -135,7 +135,8 @@ module _ {S : Type 0} (lists : ℕ) (take-one : S → Outcome (Node × S)) (few 
   operator-read : (d : ℕ) (tree : ℕ → S → Outcome (Tree × ℕ × S)) → Reads d tree → (of : Members → Tree)
       → ((ts : Members) → size (of ts) ≡ 1 + sizes ts) → ((ts : Members) → depth (of ts) ≡ 1 + depths ts) → ((ts : Members) → Named-all lists ts → count ts ≤ 8 → Named lists (of ts))
       → (n done : ℕ) (s : S) (r : Tree × ℕ × S) → 1 ≤ n → n ≤ 8
-      → (read-members lists take-one tree (n - 1) (suc done) s >>= λ m. accepted (of (m .0), m .1, m .2)) ≡ accepted r → Read lists (suc d) done (r .0) (r .1)
+      → operator lists take-one of (read-members lists take-one tree (n - 1) (suc done) s) ≡ accepted r → Read lists (suc d) done (r .0) (r .1)
+  unfolding operator
   operator-read d tree h of sz dp nm n done s r h₁ h₈ e =
       let a = bound (read-members lists take-one tree (n - 1) (suc done) s) _ r e in
       let x = members-read d tree h (n - 1) (suc done) s (a .got) (a .first) in
@@ -223,21 +224,19 @@ field-lt w bs r e =
     let l : length (take w bs) ≡ w = omega (arith, length-take w bs, leb-true w (length bs) (a .0)) in
     rw (← q) (rw l at (value-lt (take w bs)))
 
+few-rest : (w : ℕ) (of : ℕ → Node) → ((n : ℕ) → n < 2 ^ w → Few (of n)) → (bs : List Bool) (r : Node × List Bool) → take-rest w of bs ≡ accepted r → Few (r .0)
+unfolding take-rest
+few-rest w of f bs r e =
+    let a = bound (take-field w bs) _ r e in
+    let q : (of (a .got .0), a .got .1) ≡ r = cc (a .rest) in
+    rw (← q) (f (a .got .0) (field-lt w bs (a .got) (a .first)))
+
 few-kind : (kind : ℕ) (bs : List Bool) (r : Node × List Bool) → take-kind kind bs ≡ accepted r → Few (r .0)
 unfolding take-kind
-few-kind zero bs r e =
-    let a = bound (take-field 5 bs) _ r e in
-    let q : (Leaf (a .got .0), a .got .1) ≡ r = cc (a .rest) in
-    rw (← q) tt
+few-kind zero bs r e = few-rest 5 Leaf (λ n h. tt) bs r e
 few-kind (suc zero) bs r e = let q : (Difference, bs) ≡ r = cc in rw (← q) tt
-few-kind (suc (suc zero)) bs r e =
-    let a = bound (take-field 3 bs) _ r e in
-    let q : (Union (suc (a .got .0)), a .got .1) ≡ r = cc (a .rest) in
-    rw (← q) (omega arith, omega (arith, field-lt 3 bs (a .got) (a .first)))
-few-kind (suc (suc (suc kind))) bs r e =
-    let a = bound (take-field 3 bs) _ r e in
-    let q : (Intersection (suc (a .got .0)), a .got .1) ≡ r = cc (a .rest) in
-    rw (← q) (omega arith, omega (arith, field-lt 3 bs (a .got) (a .first)))
+few-kind (suc (suc zero)) bs r e = few-rest 3 (λ n. Union (n + 1)) (λ n h. (omega arith, omega arith)) bs r e
+few-kind (suc (suc (suc kind))) bs r e = few-rest 3 (λ n. Intersection (n + 1)) (λ n h. (omega arith, omega arith)) bs r e
 
 few-packed : (s : List Bool) (r : Node × List Bool) → take-node s ≡ accepted r → Few (r .0)
 unfolding take-node

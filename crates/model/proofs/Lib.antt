@@ -10,3 +10,4 @@ pub mod Join
 pub mod Places
 pub mod Accepted
 pub mod DemandThree
+pub mod Fuel

@@ -357,7 +357,7 @@ module _ (ls : List (List ℕ)) (up : (k : ℕ) → Up 0 (getD ls k [])) where
         (inter-seek i (i + size t) (i + size t + sizes ts) (residual ls t i) (residual-all ls ts (i + size t)) (omega arith) (omega arith) (residual-local ls t i) (all-local ls ts (i + size t))
         (seek ls t i) (seek-rest ls ts (i + size t)) (seek-is t i) (rest-is ts (i + size t)) fuel e rs (omega (arith, fuel-is)) et (omega arith))
 
-    rest-is : (ts : Members) (i : ℕ) → Passes i (i + sizes ts) (residual-all ls ts i) (seek-rest ls ts i)
+    pub rest-is : (ts : Members) (i : ℕ) → Passes i (i + sizes ts) (residual-all ls ts i) (seek-rest ls ts i)
     rest-is (one t) i = λ e rs et jl. sought-passed i (i + size t) (residual ls t i) e (rs .places) (seek ls t i e rs) (seek-is t i e rs et jl)
     rest-is (more t ts) i = λ e rs et jl.
         passed-wide i (i + size t + sizes ts) i (i + (size t + sizes ts)) (residual-all ls (more t ts) i) e (rs .places) (omega arith) (omega arith) (seek-rest ls (more t ts) i e rs)

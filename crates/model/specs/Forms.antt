@@ -62,18 +62,17 @@ take-byte (b ∷ bs) = do
   n ← node-of b
   accepted (n, bs)
 
--- one node off packed bits, by its kind; 1 where they end
+-- one node off packed bits: a field of w bits that says the rest of it, by its kind; 1 where the bits end
+unfoldable pub take-rest : ℕ → (ℕ → Node) → List Bool → Outcome (Node × List Bool)
+take-rest w of bs = do
+  (n, rest) ← take-field w bs
+  accepted (of n, rest)
+
 unfoldable pub take-kind : ℕ → List Bool → Outcome (Node × List Bool)
-take-kind zero bs = do
-  (k, rest) ← take-field 5 bs
-  accepted (Leaf k, rest)
+take-kind zero bs = take-rest 5 Leaf bs
 take-kind (suc zero) bs = accepted (Difference, bs)
-take-kind (suc (suc zero)) bs = do
-  (n, rest) ← take-field 3 bs
-  accepted (Union (suc n), rest)
-take-kind (suc (suc (suc kind))) bs = do
-  (n, rest) ← take-field 3 bs
-  accepted (Intersection (suc n), rest)
+take-kind (suc (suc zero)) bs = take-rest 3 (λ n. Union (n + 1)) bs
+take-kind (suc (suc (suc kind))) bs = take-rest 3 (λ n. Intersection (n + 1)) bs
 
 unfoldable pub take-node : List Bool → Outcome (Node × List Bool)
 take-node bs = do
@@ -96,6 +95,11 @@ module _ {S : Type 0} (lists : ℕ) (take : S → Outcome (Node × S)) where
     (ts, done₂, rest) ← read-members tree n done₁ source₁
     accepted (more t ts, done₂, rest)
 
+  unfoldable pub operator : (Members → Tree) → Reading Members → Reading Tree
+  operator of members = do
+    (ts, done, rest) ← members
+    accepted (of ts, done, rest)
+
   -- what stands below a node; 4 for a list number that is not there
   unfoldable pub read-below : (ℕ → S → Reading Tree) → Node → ℕ → S → Reading Tree
   read-below tree (Leaf k) done source = do
@@ -105,12 +109,8 @@ module _ {S : Type 0} (lists : ℕ) (take : S → Outcome (Node × S)) where
     (s, done₁, source₁) ← tree done source
     (t, done₂, rest) ← tree done₁ source₁
     accepted (difference s t, done₂, rest)
-  read-below tree (Union n) done source = do
-    (ts, done₁, rest) ← read-members tree (n - 1) done source
-    accepted (union ts, done₁, rest)
-  read-below tree (Intersection n) done source = do
-    (ts, done₁, rest) ← read-members tree (n - 1) done source
-    accepted (intersection ts, done₁, rest)
+  read-below tree (Union n) done source = operator union (read-members tree (n - 1) done source)
+  read-below tree (Intersection n) done source = operator intersection (read-members tree (n - 1) done source)
 
   -- "At each node: 2, 3, 1, then 4 (in a row also 14)", with so much depth left and so many nodes done
   unfoldable pub read-tree : ℕ → ℕ → S → Reading Tree
