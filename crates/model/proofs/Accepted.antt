@@ -24,6 +24,9 @@ use Rattle.model.proofs.Order.{and-true, split, Up}
 never-accepted : {A B : Type 0} {n : ℕ} {b : B} → refused n ≡ accepted b → A
 never-accepted {A} {B} {n} {b} h = let z : _≡_ {A = ℕ} 0 1 = cc in absurd (omega arith)
 
+pub accepted-same : {A : Type 0} {a b : A} → accepted a ≡ accepted b → a ≡ b
+accepted-same {A} {a} {b} h = cc
+
 pub record Bound {A B : Type 0} (o : Outcome A) (f : A → Outcome B) (b : B) : Type 0 where
   pub got : A
   pub first : o ≡ accepted got

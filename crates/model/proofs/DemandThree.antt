@@ -45,7 +45,7 @@ small-append : (cs ds : List Call) → All-small (cs ++ ds) → All-small cs × 
 small-append [] ds h = (tt, h)
 small-append (c ∷ cs) ds h = let a = small-append cs ds (h .1) in ((h .0, a .0), a .1)
 
-small-nexts : (n : ℕ) → All-small (replicate n next)
+pub small-nexts : (n : ℕ) → All-small (replicate n next)
 small-nexts zero = tt
 small-nexts (suc n) = (tt, small-nexts n)
 

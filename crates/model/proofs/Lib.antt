@@ -11,3 +11,4 @@ pub mod Places
 pub mod Accepted
 pub mod DemandThree
 pub mod Fuel
+pub mod Listing

@@ -22,6 +22,11 @@ use Rattle.model.specs.Delivery.{delivery, read-delivery}
 use Rattle.model.specs.Calls.{unpack, pack, decode, encode-lists, run-call, ends-from}
 use Rattle.model.specs.Program.{halves, Listing, listing}
 
+-- opens the definitions: under `unfolding computes` each side of a table computes
+computes : Unit {0}
+unfolding machine reply draw Sets.least-from Sets.least Sets.lower Sets.concat Sets.member Sets.among size run Run.begin Run.steps Run.step Run.drawn Run.told Steps.seek Steps.test Steps.read Steps.answer Steps.passed Steps.fuel Steps.differ Steps.unite Steps.follow Steps.intersect Steps.is-at Steps.turned Steps.on-yes Steps.on-no read-packed Forms.read-tree Forms.read-below Forms.operator Forms.read-members Forms.take-node Forms.take-kind Forms.take-rest Fields.take-field Fields.bits Fields.field Fields.value Fields.bit Fields.only-fill Fields.zeros packed Forms.packed-nodes Forms.packed-node Forms.nodes Fields.bytes Fields.fill count read-delivery Delivery.read-lists Delivery.read-list Delivery.read-body Delivery.read-later Delivery.read-gaps Delivery.width Delivery.width-from Delivery.largest-gap Lists.count-holds delivery Delivery.lists-bits Delivery.list-bits Delivery.body-bits Delivery.gap-bits sent over unpack pack decode encode-lists run-call run-of Run.source-of Lists.lists-of Lists.lists-from Lists.part Lists.ends-hold Lists.all-ascending Lists.ascending Lists.rises read-row Forms.take-byte Forms.node-of Forms.is-empty ends-from row sizes Forms.row-byte encode calls call listing halves Sets.members-from Sets.select Sets.insert
+computes = tt
+
 -- L0 to L3 of the report's figures 1 to 3
 abbrev pub figures : List (List ℕ)
 figures = (0 ∷ 1 ∷ 2 ∷ 5 ∷ 6 ∷ 8 ∷ 9 ∷ []) ∷ (0 ∷ 2 ∷ 3 ∷ 4 ∷ 5 ∷ []) ∷ (2 ∷ 3 ∷ 6 ∷ 8 ∷ 9 ∷ []) ∷ (0 ∷ 1 ∷ 2 ∷ 3 ∷ 7 ∷ 9 ∷ []) ∷ []
@@ -183,7 +188,7 @@ pub record Papers : Type 0 where
   pub P9-written : map (λ d. delivery (d .1)) deliveries ≡ map (λ d. d .0) deliveries
 
 pub papers : Papers
-unfolding machine reply draw Sets.least-from Sets.least Sets.lower Sets.concat Sets.member Sets.among size run Run.begin Run.steps Run.step Run.drawn Run.told Steps.seek Steps.test Steps.read Steps.answer Steps.passed Steps.fuel Steps.differ Steps.unite Steps.follow Steps.intersect Steps.is-at Steps.turned Steps.on-yes Steps.on-no read-packed Forms.read-tree Forms.read-below Forms.operator Forms.read-members Forms.take-node Forms.take-kind Forms.take-rest Fields.take-field Fields.bits Fields.field Fields.value Fields.bit Fields.only-fill Fields.zeros packed Forms.packed-nodes Forms.packed-node Forms.nodes Fields.bytes Fields.fill count read-delivery Delivery.read-lists Delivery.read-list Delivery.read-body Delivery.read-later Delivery.read-gaps Delivery.width Delivery.width-from Delivery.largest-gap Lists.count-holds delivery Delivery.lists-bits Delivery.list-bits Delivery.body-bits Delivery.gap-bits
+unfolding computes
 papers = record { P1-to-P7 = refl; P8-read = refl; P8-written = refl; P9-read = refl; P9-written = refl }
 
 abbrev eight-of-list-0 : List ℕ
@@ -216,10 +221,31 @@ refusal n parts rows = record { number = n; parts = replicate parts 0; rows = re
 pub refusals : refused-inputs ≡
     refusal 1 1 1 ∷ refusal 2 1 1 ∷ refusal 3 1 1 ∷ refusal 4 1 1 ∷ refusal 5 1 1 ∷ refusal 6 2 2 ∷ refusal 7 2 2 ∷ refusal 8 2 2 ∷ refusal 9 2 2 ∷
     refusal 10 1 1 ∷ refusal 11 1 1 ∷ refusal 12 50 1 ∷ refusal 13 50 1 ∷ refusal 14 1 1 ∷ []
-unfolding sent over unpack pack decode encode-lists run-call run-of Run.source-of Lists.lists-of Lists.lists-from Lists.part Lists.ends-hold Lists.all-ascending Lists.ascending Lists.rises Lists.count-holds read-row Forms.take-byte Forms.node-of Forms.is-empty read-packed Forms.read-tree Forms.read-below Forms.operator Forms.read-members Forms.take-node Forms.take-kind Forms.take-rest Fields.take-field Fields.bits Fields.field Fields.value Fields.bit Fields.only-fill Fields.zeros read-delivery Delivery.read-lists Delivery.read-list Delivery.read-body Delivery.read-later Delivery.read-gaps Delivery.width Delivery.width-from Delivery.largest-gap
+unfolding computes
 refusals = refl
+
+-- what success sends back: the parts in 01's order, and behind the written elements what the row held. P8 unpacked and
+-- packed, P9 read and written, and a run with every kind of reply over the list 2 3 5
+pub successes :
+    unpack (0x40 ∷ 0x01 ∷ []) 2 (7 ∷ 7 ∷ 7 ∷ 7 ∷ []) ∷
+    pack (64 ∷ 0 ∷ 1 ∷ []) 2 (7 ∷ 7 ∷ 7 ∷ []) ∷
+    decode (0x04 ∷ 0x00 ∷ 0x0C ∷ 0x00 ∷ 0x00 ∷ 0x00 ∷ 0x08 ∷ 0x08 ∷ []) (7 ∷ 7 ∷ 7 ∷ 7 ∷ []) (7 ∷ 7 ∷ []) ∷
+    encode-lists (2 ∷ 3 ∷ 5 ∷ 7 ∷ []) (3 ∷ []) (replicate 9 7) ∷
+    run-call (2 ∷ 3 ∷ 5 ∷ []) (3 ∷ []) (0x00 ∷ []) 0 (3 ∷ 4 ∷ 0 ∷ 2 ∷ 3 ∷ 1 ∷ []) (2 ∷ 9 ∷ 9 ∷ 2 ∷ 2 ∷ 6 ∷ []) (replicate 7 7) ∷ []
+    ≡
+    record { number = 0; parts = 3 ∷ []; rows = (64 ∷ 0 ∷ 1 ∷ 7 ∷ []) ∷ [] } ∷
+    record { number = 0; parts = 2 ∷ []; rows = (0x40 ∷ 0x01 ∷ 7 ∷ []) ∷ [] } ∷
+    record { number = 0; parts = 1 ∷ 3 ∷ []; rows = (2 ∷ 3 ∷ 5 ∷ 7 ∷ []) ∷ (3 ∷ 7 ∷ []) ∷ [] } ∷
+    record { number = 0; parts = 8 ∷ []; rows = (0x04 ∷ 0x00 ∷ 0x0C ∷ 0x00 ∷ 0x00 ∷ 0x00 ∷ 0x08 ∷ 0x08 ∷ 7 ∷ []) ∷ [] } ∷
+    record {
+      number = 0;
+      parts = 3 ∷ 3 ∷ (replicate 47 0 ++ (4294967296 ∷ []));
+      rows = (4294967297 ∷ 4294967299 ∷ 2 ∷ 3 ∷ 4294967296 ∷ 4294967298 ∷ 7 ∷ []) ∷ [];
+    } ∷ []
+unfolding computes
+successes = refl
 
 -- the program's stored example: 01 00 04 00 0C 00 00 00 08 08
 pub example : listing (0x01 ∷ 0x00 ∷ 0x04 ∷ 0x00 ∷ 0x0C ∷ 0x00 ∷ 0x00 ∷ 0x00 ∷ 0x08 ∷ 0x08 ∷ []) ≡ accepted (record { members = 2 ∷ 3 ∷ 5 ∷ []; moves = 3 })
-unfolding listing halves Lists.count-holds read-packed Forms.read-tree Forms.read-below Forms.operator Forms.read-members Forms.take-node Forms.take-kind Forms.take-rest Fields.take-field Fields.bits Fields.field Fields.value Fields.bit Fields.only-fill Fields.zeros read-delivery Delivery.read-lists Delivery.read-list Delivery.read-body Delivery.read-later Delivery.read-gaps Delivery.width Delivery.width-from Delivery.largest-gap Sets.members-from Sets.select Sets.insert Sets.concat Sets.member Sets.among run Run.begin Run.steps Run.step Run.drawn Run.told Steps.seek Steps.read Steps.answer Steps.passed
+unfolding computes
 example = refl

@@ -2,7 +2,7 @@
 use mathlib.Core.Path.{_≡_}
 use mathlib.Core.Bool.{true, _&&_}
 use mathlib.Core.List.{List, [], _∷_, _++_, map}
-use Prim.Native.Nat.{ℕ, suc, _+_, _≤_, _<_}
+use Prim.Native.Nat.{ℕ, suc, _+_, _^_, _≤_, _<_}
 use lib.Dec.{leb}
 use lib.ListN.{length, getD, take, drop, replicate}
 use Rattle.model.specs.declared.Reply.the-variants.{Member, Finished}
@@ -10,8 +10,11 @@ use Rattle.model.specs.Outcome.{accepted}
 use Rattle.model.specs.Lists.{ascending}
 use Rattle.model.specs.Expression.{Tree, leaf, difference, union, intersection, Members, one, more, size, depth, count}
 use Rattle.model.specs.Sets.{among, member}
-use Rattle.model.specs.Machine.{calls, machine}
+use Rattle.model.specs.Machine.{next, calls, machine}
 use Rattle.model.specs.Run.{Result, run, Source, source-of, run-of}
+use Rattle.model.specs.Forms.{read-packed}
+use Rattle.model.specs.Delivery.{read-delivery}
+use Rattle.model.specs.Program.{halves, Listing}
 
 -- the list numbers at the leaves: "One list may stand at several leaves"
 unfoldable mutual
@@ -59,6 +62,12 @@ pub record Expression (lists : ℕ) (t : Tree) : Type 0 where
   pub levels : depth t ≤ 12
   pub named : Named lists t
 
+-- "the least width that holds the largest gap minus 1, and at least 1": w is that of m
+pub record Least-width (m w : ℕ) : Type 0 where
+  pub one : 1 ≤ w
+  pub holds : m < 2 ^ w
+  pub least : (k : ℕ) → 1 ≤ k → m < 2 ^ k → w ≤ k
+
 -- ---- demand 3, in the customer's sentences, over any lists and expression that nobody changes meanwhile
 module _ (numbers ends expression : List ℕ) where
   -- one run, accepted. "In every one of these runs the reported reader moves and places equal those of the steps in
@@ -101,3 +110,18 @@ module _ (numbers ends expression : List ℕ) where
     pub plain : (r .replies, r .bookmark) ≡ machine (source .lists) (source .tree) bookmark (calls codes ds)
     pub drawn : Drawn source (r .bookmark)
     pub broken : (k : ℕ) → Broken source bookmark codes ds room r k
+
+-- ---- the program: every member of the delivered lists' expression, ascending, and the moves of "one run from bookmark
+-- 0, whose only finished is its last reply"
+pub record Listed (input : List ℕ) (l : Listing) : Type 0 where
+  pub stored : List ℕ × List ℕ
+  pub is-stored : halves input ≡ accepted stored
+  pub source : Source
+  pub is-lists : read-delivery 4096 32 (stored .1) ≡ accepted (source .lists)
+  pub is-tree : read-packed (length (source .lists)) (stored .0) ≡ accepted (source .tree)
+  pub ascend : ascending (l .members) ≡ true
+  pub every : (x : ℕ) → among x (l .members) ≡ member (source .lists) (source .tree) x
+  pub result : Result
+  pub ran : run (source .lists) (source .tree) 0 (replicate (suc (length (l .members))) next) ≡ result
+  pub replies : result .replies ≡ map Member (l .members) ++ (Finished ∷ [])
+  pub moved : result .moves ≡ l .moves
