@@ -10,7 +10,7 @@ use borrow.Author.Tests.{eqb-true, eqb-false}
 use lib.ListN.{getD, length}
 use Rattle.model.specs.Lists.{top}
 use Rattle.model.specs.Expression.{Tree, leaf, difference, union, intersection, Members, one, more, size, sizes}
-use Rattle.model.specs.Steps.{Readers, Found, end, at, Checked, says, Check, read, is-at, turned, on-yes, on-no, test, test-union, test-intersection}
+use Rattle.model.specs.Steps.{Readers, Found, end, at, Checked, says, Check, read, is-at, turned, on-yes, on-no, check-node, check-union, check-intersection}
 use Rattle.model.proofs.Order.{Up}
 use Rattle.model.proofs.Residual.{Set, Local, Kept, Sought, kept-wide, left-of, residual, residual-some, residual-all, residual-local, some-local, all-local}
 use Rattle.model.proofs.Seek.{read-seek}
@@ -87,32 +87,32 @@ told-wide i j i′ j′ R d ps hi hj (says b rs) s = (kept-wide i j i′ j′ R 
 -- a check of any node, over any ascending lists and from any places
 module _ (ls : List (List ℕ)) (up : (k : ℕ) → Up 0 (getD ls k [])) where
   mutual
-    unfolding test residual size
+    unfolding check-node residual size
 
-    pub test-is : (t : Tree) (i : ℕ) → Tells self i (i + size t) (residual ls t i) (test ls t i)
-    test-is (leaf k) i = λ d rs dt jl.
+    pub check-is : (t : Tree) (i : ℕ) → Tells self i (i + size t) (residual ls t i) (check-node ls t i)
+    check-is (leaf k) i = λ d rs dt jl.
         told-wide i (suc i) i (i + 1) (left-of (getD ls k []) i) d (rs .places) (omega arith) (omega arith) (is-at d (read (getD ls k []) i d rs))
         (reader-told i (suc i) (left-of (getD ls k []) i) d (rs .places) (read (getD ls k []) i d rs) (read-seek (getD ls k []) i (up k) d rs dt (omega arith)))
-    test-is (difference s t) i = λ d rs dt jl.
-        told-wide (1 + i) (1 + i + size s + size t) i (i + (1 + size s + size t)) (residual ls (difference s t) i) d (rs .places) (omega arith) (omega arith) (test ls (difference s t) i d rs)
+    check-is (difference s t) i = λ d rs dt jl.
+        told-wide (1 + i) (1 + i + size s + size t) i (i + (1 + size s + size t)) (residual ls (difference s t) i) d (rs .places) (omega arith) (omega arith) (check-node ls (difference s t) i d rs)
         (yes-tells (1 + i) (1 + i + size s) (1 + i + size s + size t) (residual ls s (1 + i)) (residual ls t (1 + i + size s)) (omega arith) (omega arith) (residual-local ls s (1 + i)) (residual-local ls t (1 + i + size s))
-        not (test ls s (1 + i)) (λ d′ rs₁. turned (test ls t (1 + i + size s) d′ rs₁)) (test-is s (1 + i))
-        (λ d′ rs₁ dt′ jl′. turned-told (1 + i + size s) (1 + i + size s + size t) (residual ls t (1 + i + size s)) d′ (rs₁ .places) (test ls t (1 + i + size s) d′ rs₁) (test-is t (1 + i + size s) d′ rs₁ dt′ jl′)) d rs dt (omega arith))
-    test-is (union ts) i = λ d rs dt jl.
-        told-wide (1 + i) (1 + i + sizes ts) i (i + (1 + sizes ts)) (residual-some ls ts (1 + i)) d (rs .places) (omega arith) (omega arith) (test-union ls ts (1 + i) d rs) (some-is ts (1 + i) d rs dt (omega arith))
-    test-is (intersection ts) i = λ d rs dt jl.
-        told-wide (1 + i) (1 + i + sizes ts) i (i + (1 + sizes ts)) (residual-all ls ts (1 + i)) d (rs .places) (omega arith) (omega arith) (test-intersection ls ts (1 + i) d rs) (all-is ts (1 + i) d rs dt (omega arith))
+        not (check-node ls s (1 + i)) (λ d′ rs₁. turned (check-node ls t (1 + i + size s) d′ rs₁)) (check-is s (1 + i))
+        (λ d′ rs₁ dt′ jl′. turned-told (1 + i + size s) (1 + i + size s + size t) (residual ls t (1 + i + size s)) d′ (rs₁ .places) (check-node ls t (1 + i + size s) d′ rs₁) (check-is t (1 + i + size s) d′ rs₁ dt′ jl′)) d rs dt (omega arith))
+    check-is (union ts) i = λ d rs dt jl.
+        told-wide (1 + i) (1 + i + sizes ts) i (i + (1 + sizes ts)) (residual-some ls ts (1 + i)) d (rs .places) (omega arith) (omega arith) (check-union ls ts (1 + i) d rs) (some-is ts (1 + i) d rs dt (omega arith))
+    check-is (intersection ts) i = λ d rs dt jl.
+        told-wide (1 + i) (1 + i + sizes ts) i (i + (1 + sizes ts)) (residual-all ls ts (1 + i)) d (rs .places) (omega arith) (omega arith) (check-intersection ls ts (1 + i) d rs) (all-is ts (1 + i) d rs dt (omega arith))
 
-    some-is : (ts : Members) (i : ℕ) → Tells self i (i + sizes ts) (residual-some ls ts i) (test-union ls ts i)
-    some-is (one t) i = λ d rs dt jl. test-is t i d rs dt jl
+    some-is : (ts : Members) (i : ℕ) → Tells self i (i + sizes ts) (residual-some ls ts i) (check-union ls ts i)
+    some-is (one t) i = λ d rs dt jl. check-is t i d rs dt jl
     some-is (more t ts) i = λ d rs dt jl.
-        told-wide i (i + size t + sizes ts) i (i + (size t + sizes ts)) (residual-some ls (more t ts) i) d (rs .places) (omega arith) (omega arith) (test-union ls (more t ts) i d rs)
+        told-wide i (i + size t + sizes ts) i (i + (size t + sizes ts)) (residual-some ls (more t ts) i) d (rs .places) (omega arith) (omega arith) (check-union ls (more t ts) i d rs)
         (no-tells i (i + size t) (i + size t + sizes ts) (residual ls t i) (residual-some ls ts (i + size t)) (omega arith) (omega arith) (residual-local ls t i) (some-local ls ts (i + size t))
-        (test ls t i) (test-union ls ts (i + size t)) (test-is t i) (some-is ts (i + size t)) d rs dt (omega arith))
+        (check-node ls t i) (check-union ls ts (i + size t)) (check-is t i) (some-is ts (i + size t)) d rs dt (omega arith))
 
-    all-is : (ts : Members) (i : ℕ) → Tells self i (i + sizes ts) (residual-all ls ts i) (test-intersection ls ts i)
-    all-is (one t) i = λ d rs dt jl. test-is t i d rs dt jl
+    all-is : (ts : Members) (i : ℕ) → Tells self i (i + sizes ts) (residual-all ls ts i) (check-intersection ls ts i)
+    all-is (one t) i = λ d rs dt jl. check-is t i d rs dt jl
     all-is (more t ts) i = λ d rs dt jl.
-        told-wide i (i + size t + sizes ts) i (i + (size t + sizes ts)) (residual-all ls (more t ts) i) d (rs .places) (omega arith) (omega arith) (test-intersection ls (more t ts) i d rs)
+        told-wide i (i + size t + sizes ts) i (i + (size t + sizes ts)) (residual-all ls (more t ts) i) d (rs .places) (omega arith) (omega arith) (check-intersection ls (more t ts) i d rs)
         (yes-tells i (i + size t) (i + size t + sizes ts) (residual ls t i) (residual-all ls ts (i + size t)) (omega arith) (omega arith) (residual-local ls t i) (all-local ls ts (i + size t))
-        self (test ls t i) (test-intersection ls ts (i + size t)) (test-is t i) (all-is ts (i + size t)) d rs dt (omega arith))
+        self (check-node ls t i) (check-intersection ls ts (i + size t)) (check-is t i) (all-is ts (i + size t)) d rs dt (omega arith))

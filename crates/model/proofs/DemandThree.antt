@@ -200,6 +200,6 @@ demand-three numbers ends expression bookmark codes ds room r n nd e =
       ran = ran numbers ends expression n s (a .is-source) bookmark codes ds room (a .low) (a .paired) (a .fits);
       plain = join (s .lists) (up numbers ends expression n s (a .is-source)) (s .tree) bookmark (a .low) (small numbers ends expression n s (a .is-source)) (calls codes ds) (small-calls codes ds nd);
       drawn = drawn numbers ends expression n s (a .is-source) (run (s .lists) (s .tree) bookmark (calls codes ds) .bookmark)
-        (bookmark-low (s .lists) (up numbers ends expression n s (a .is-source)) (s .tree) bookmark (a .low) (small numbers ends expression n s (a .is-source)) (calls codes ds) (small-calls codes ds nd));
+          (bookmark-low (s .lists) (up numbers ends expression n s (a .is-source)) (s .tree) bookmark (a .low) (small numbers ends expression n s (a .is-source)) (calls codes ds) (small-calls codes ds nd));
       broken = broken numbers ends expression n s (a .is-source) bookmark codes ds room nd (a .low) (a .paired) (a .fits);
     })

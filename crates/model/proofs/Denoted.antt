@@ -11,7 +11,7 @@ use borrow.Author.Tests.{lt-ltb, ltb-true, ltb-false, leb-true, le-leb, lt-leb, 
 use lib.ListN.{getD}
 use Rattle.model.specs.Lists.{top, rises, ascending}
 use Rattle.model.specs.Expression.{Tree, leaf, difference, union, intersection, Members, one, more}
-use Rattle.model.specs.Sets.{among, member, member-some, member-all, concat, least, lower, least-from, insert, select, members-from}
+use Rattle.model.specs.Sets.{among, member, member-some, member-all, all-numbers, least, lower, least-from, insert, select, members-from}
 use Rattle.model.specs.Demands.{leaves, leaves-all}
 use Rattle.model.proofs.Order.{or-right, and-right, and-true, or-true, not-both, split, min-case, Up, up-low, up-none}
 
@@ -32,11 +32,11 @@ among-left x l r h = cc (among-append x l r, h)
 among-right : (x : ℕ) (l r : List ℕ) → among x r ≡ true → among x (l ++ r) ≡ true
 among-right x l r h = among-append x l r ∙ or-right (among x l) (among x r) h
 
-pub among-concat : (x : ℕ) (ls : List (List ℕ)) (k : ℕ) → among x (getD ls k []) ≡ true → among x (concat ls) ≡ true
-unfolding concat
-among-concat x [] k h = h
-among-concat x (l ∷ ls) zero h = among-left x l (concat ls) h
-among-concat x (l ∷ ls) (suc k) h = among-right x l (concat ls) (among-concat x ls k h)
+pub among-all : (x : ℕ) (ls : List (List ℕ)) (k : ℕ) → among x (getD ls k []) ≡ true → among x (all-numbers ls) ≡ true
+unfolding all-numbers
+among-all x [] k h = h
+among-all x (l ∷ ls) zero h = among-left x l (all-numbers ls) h
+among-all x (l ∷ ls) (suc k) h = among-right x l (all-numbers ls) (among-all x ls k h)
 
 -- a list at a leaf that holds x
 pub record At-leaf (ls : List (List ℕ)) (ks : List ℕ) (x : ℕ) : Type 0 where
@@ -71,8 +71,8 @@ module _ (ls : List (List ℕ)) (x : ℕ) where
     all-at-leaf (one t) h = member-at-leaf t h
     all-at-leaf (more t ts) h = at-left ls (leaves t) (leaves-all ts) x (member-at-leaf t (and-true (member ls t x) (member-all ls ts x) h .0))
 
-pub member-in : (ls : List (List ℕ)) (t : Tree) (x : ℕ) → member ls t x ≡ true → among x (concat ls) ≡ true
-member-in ls t x h = let l = member-at-leaf ls x t h in among-concat x ls (l .number) (l .holds)
+pub member-in : (ls : List (List ℕ)) (t : Tree) (x : ℕ) → member ls t x ≡ true → among x (all-numbers ls) ≡ true
+member-in ls t x h = let l = member-at-leaf ls x t h in among-all x ls (l .number) (l .holds)
 
 -- ---- the least member not below the floor
 
@@ -130,9 +130,9 @@ module _ (ls : List (List ℕ)) (t : Tree) (floor : ℕ) where
   -- `least member not below the floor` is least, is a member, and is absent only if there is none
   pub least-from-is : Least-from ls t floor (least-from ls t floor)
   unfolding least-from
-  least-from-is = go (least-from ls t floor) (least-is (λ x. leb floor x && member ls t x) (concat ls))
+  least-from-is = go (least-from ls t floor) (least-is (λ x. leb floor x && member ls t x) (all-numbers ls))
     where
-      go : (r : Option ℕ) → Is-least (λ x. leb floor x && member ls t x) (concat ls) r → Least-from ls t floor r
+      go : (r : Option ℕ) → Is-least (λ x. leb floor x && member ls t x) (all-numbers ls) r → Least-from ls t floor r
       go none l = λ x h. not-member x (λ m. not-both (passes x h m) (l x (member-in ls t x m)))
       go (some a) l = record {
         from = leb-true floor a (and-true (leb floor a) (member ls t a) (l .0) .0);
@@ -228,10 +228,10 @@ up-ascending lo (x ∷ xs) u = go x xs (u .2)
     go x (y ∷ ys) u = cc (lt-ltb x y (u .0), go y ys (u .2))
 
 -- a number of ascending lists is a number
-pub concat-small : (ls : List (List ℕ)) → ((k : ℕ) → Up 0 (getD ls k [])) → (x : ℕ) → among x (concat ls) ≡ true → x < top
-unfolding concat among
-concat-small [] up x m = absurd (not-both m refl)
-concat-small (l ∷ ls) up x m = or-true (among x l) (among x (concat ls)) (λ i. go 0 l (up 0) i) (λ i. concat-small ls (λ k. up (suc k)) x i) (sym (among-append x l (concat ls)) ∙ m)
+pub all-small : (ls : List (List ℕ)) → ((k : ℕ) → Up 0 (getD ls k [])) → (x : ℕ) → among x (all-numbers ls) ≡ true → x < top
+unfolding all-numbers among
+all-small [] up x m = absurd (not-both m refl)
+all-small (l ∷ ls) up x m = or-true (among x l) (among x (all-numbers ls)) (λ i. go 0 l (up 0) i) (λ i. all-small ls (λ k. up (suc k)) x i) (sym (among-append x l (all-numbers ls)) ∙ m)
   where
     go : (lo : ℕ) (l : List ℕ) → Up lo l → among x l ≡ true → x < top
     go lo [] u i = absurd (not-both i refl)
@@ -240,15 +240,15 @@ concat-small (l ∷ ls) up x m = or-true (among x l) (among x (concat ls)) (λ i
 module _ (ls : List (List ℕ)) (up : (k : ℕ) → Up 0 (getD ls k [])) (t : Tree) (bookmark : ℕ) where
   pub members-up : Up bookmark (members-from ls t bookmark)
   unfolding members-from
-  members-up = select-up (λ x. leb bookmark x && member ls t x) bookmark (concat ls)
-      (λ x m q. (leb-true bookmark x (and-true (leb bookmark x) (member ls t x) q .0), concat-small ls up x m))
+  members-up = select-up (λ x. leb bookmark x && member ls t x) bookmark (all-numbers ls)
+      (λ x m q. (leb-true bookmark x (and-true (leb bookmark x) (member ls t x) q .0), all-small ls up x m))
 
   -- the row of members holds each member at or above the bookmark, and nothing else
   pub members-are : (x : ℕ) → among x (members-from ls t bookmark) ≡ leb bookmark x && member ls t x
   unfolding members-from
-  members-are x = select-among (λ y. leb bookmark y && member ls t y) x (concat ls) ∙ go (leb bookmark x) (member ls t x) (λ m. member-in ls t x m)
+  members-are x = select-among (λ y. leb bookmark y && member ls t y) x (all-numbers ls) ∙ go (leb bookmark x) (member ls t x) (λ m. member-in ls t x m)
     where
-      go : (a b : Bool) → (b ≡ true → among x (concat ls) ≡ true) → (a && b) && among x (concat ls) ≡ a && b
+      go : (a b : Bool) → (b ≡ true → among x (all-numbers ls) ≡ true) → (a && b) && among x (all-numbers ls) ≡ a && b
       go true true h = h refl
       go true false h = refl
       go false b h = refl

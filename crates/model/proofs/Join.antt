@@ -17,12 +17,12 @@ use Rattle.model.specs.Lists.{top}
 use Rattle.model.specs.Expression.{Tree, leaf, difference, union, intersection, Members, one, more, size}
 use Rattle.model.specs.Sets.{member, member-some, member-all}
 use Rattle.model.specs.Machine.{Call, next, at-or-past, past, check, other, draw, reply, machine}
-use Rattle.model.specs.Steps.{Readers, Found, end, at, Checked, says, seek, test}
+use Rattle.model.specs.Steps.{Readers, Found, end, at, Checked, says, seek, check-node}
 use Rattle.model.specs.Run.{State, drawn, told, step, steps, begin, run}
 use Rattle.model.proofs.Order.{Up, untouched, none-moved}
 use Rattle.model.proofs.Residual.{After, Sought, residual, residual-some, residual-all}
 use Rattle.model.proofs.Seek.{seek-is}
-use Rattle.model.proofs.Check.{Told, test-is}
+use Rattle.model.proofs.Check.{Told, check-is}
 use Rattle.model.proofs.Plain.{draw-none, draw-some}
 
 -- readers at the start have everything left
@@ -111,9 +111,9 @@ module _ (ls : List (List ℕ)) (up : (k : ℕ) → Up 0 (getD ls k [])) (t : Tr
   step-joined s o (check d) h = go (ltb d (s .floor)) refl
     where
       go : (b : Bool) → ltb d (s .floor) ≡ b
-          → Joined (elim b [ true ↦ (No, s) | false ↦ told d (test ls t 0 d (s .readers)) ]) (cond (leb (s .floor) d && member ls t d) Yes No, max (s .floor) d)
+          → Joined (elim b [ true ↦ (No, s) | false ↦ told d (check-node ls t 0 d (s .readers)) ]) (cond (leb (s .floor) d && member ls t d) Yes No, max (s .floor) d)
       go true q = record { same = rw (lt-leb (s .floor) d (ltb-true d (s .floor) q)); floors = omega (arith, ltb-true d (s .floor) q); ok = o }
-      go false q = told-joined s o d h (ltb-false d (s .floor) q) (test ls t 0 d (s .readers)) (test-is ls up t 0 d (s .readers) (omega arith) (omega (arith, o .fits)))
+      go false q = told-joined s o d h (ltb-false d (s .floor) q) (check-node ls t 0 d (s .readers)) (check-is ls up t 0 d (s .readers) (omega arith) (omega (arith, o .fits)))
   step-joined s o other h = record { same = refl; floors = refl; ok = o }
 
   record All-joined (a : List Reply × State) (b : List Reply × ℕ) : Type 0 where

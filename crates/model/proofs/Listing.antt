@@ -149,7 +149,7 @@ module _ (input : List ℕ) (stored : List ℕ × List ℕ) (is-stored : halves 
     result = run ls t 0 all-and-one;
     ran = refl;
     replies = ap (λ p. p .0) (join ls up t 0 (omega arith) (packed-reads (length ls) (stored .0) t is-tree .nodes) all-and-one (small-nexts (suc (length ms))))
-      ∙ rw (add-one (length ms)) at (draws ls up t 0 (omega arith) 1);
+        ∙ rw (add-one (length ms)) at (draws ls up t 0 (omega arith) 1);
     moved = refl;
   }
     where

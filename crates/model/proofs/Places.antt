@@ -16,7 +16,7 @@ use Rattle.model.specs.declared.Reply.{Reply}
 use Rattle.model.specs.declared.Reply.the-variants.{No}
 use Rattle.model.specs.Expression.{Tree, leaf, difference, union, intersection, Members, one, more, size, sizes}
 use Rattle.model.specs.Machine.{Call, next, at-or-past, past, check, other}
-use Rattle.model.specs.Steps.{Readers, Found, end, at, Seek, Checked, says, Check, on, passed, answer, read, fuel, differ, unite, follow, intersect, seek, seek-union, seek-intersection, seek-rest, is-at, turned, on-yes, on-no, test, test-union, test-intersection}
+use Rattle.model.specs.Steps.{Readers, Found, end, at, Seek, Checked, says, Check, on, passed, answer, read, fuel, differ, unite, follow, intersect, seek, seek-union, seek-intersection, seek-rest, is-at, turned, on-yes, on-no, check-node, check-union, check-intersection}
 use Rattle.model.specs.Run.{State, drawn, told, step, steps, begin, run}
 use Rattle.model.specs.Demands.{lengths, lengths-all, sum}
 use Rattle.model.proofs.Order.{none-moved}
@@ -126,22 +126,22 @@ module _ (P : Readers → Type 0) where
       rest-keeps (more t ts) i h = follow-keeps (seek ls t i) (seek-rest ls ts (i + size t)) (seek-keeps t i (h .0)) (rest-keeps ts (i + size t) (h .1))
 
     mutual
-      unfolding test
+      unfolding check-node
 
-      pub test-holds : (t : Tree) (i : ℕ) → Leaves-keep t i → Holds (test ls t i)
-      test-holds (leaf k) i h = λ d rs w. is-at-holds d (read (getD ls k []) i d rs) (h d rs w)
-      test-holds (difference s t) i h = λ d rs w.
-          yes-holds (test ls s (1 + i) d rs) _ (λ rs₁ v. turned-holds (test ls t (1 + i + size s) d rs₁) (test-holds t (1 + i + size s) (h .1) d rs₁ v)) (test-holds s (1 + i) (h .0) d rs w)
-      test-holds (union ts) i h = some-holds ts (1 + i) h
-      test-holds (intersection ts) i h = all-holds ts (1 + i) h
+      pub check-holds : (t : Tree) (i : ℕ) → Leaves-keep t i → Holds (check-node ls t i)
+      check-holds (leaf k) i h = λ d rs w. is-at-holds d (read (getD ls k []) i d rs) (h d rs w)
+      check-holds (difference s t) i h = λ d rs w.
+          yes-holds (check-node ls s (1 + i) d rs) _ (λ rs₁ v. turned-holds (check-node ls t (1 + i + size s) d rs₁) (check-holds t (1 + i + size s) (h .1) d rs₁ v)) (check-holds s (1 + i) (h .0) d rs w)
+      check-holds (union ts) i h = some-holds ts (1 + i) h
+      check-holds (intersection ts) i h = all-holds ts (1 + i) h
 
-      some-holds : (ts : Members) (i : ℕ) → All-keep ts i → Holds (test-union ls ts i)
-      some-holds (one t) i h = test-holds t i h
-      some-holds (more t ts) i h = λ d rs w. no-holds (test ls t i d rs) (test-union ls ts (i + size t) d) (some-holds ts (i + size t) (h .1) d) (test-holds t i (h .0) d rs w)
+      some-holds : (ts : Members) (i : ℕ) → All-keep ts i → Holds (check-union ls ts i)
+      some-holds (one t) i h = check-holds t i h
+      some-holds (more t ts) i h = λ d rs w. no-holds (check-node ls t i d rs) (check-union ls ts (i + size t) d) (some-holds ts (i + size t) (h .1) d) (check-holds t i (h .0) d rs w)
 
-      all-holds : (ts : Members) (i : ℕ) → All-keep ts i → Holds (test-intersection ls ts i)
-      all-holds (one t) i h = test-holds t i h
-      all-holds (more t ts) i h = λ d rs w. yes-holds (test ls t i d rs) (test-intersection ls ts (i + size t) d) (all-holds ts (i + size t) (h .1) d) (test-holds t i (h .0) d rs w)
+      all-holds : (ts : Members) (i : ℕ) → All-keep ts i → Holds (check-intersection ls ts i)
+      all-holds (one t) i h = check-holds t i h
+      all-holds (more t ts) i h = λ d rs w. yes-holds (check-node ls t i d rs) (check-intersection ls ts (i + size t) d) (all-holds ts (i + size t) (h .1) d) (check-holds t i (h .0) d rs w)
 
     -- and so a whole list of calls keeps it
     module _ (t : Tree) (h : Leaves-keep t 0) where
@@ -162,11 +162,11 @@ module _ (P : Readers → Type 0) where
       step-keeps s (check d) p = go (ltb d (s .floor))
         where
           after : Bool → Reply × State
-          after b = elim b [ true ↦ (No, s) | false ↦ told d (test ls t 0 d (s .readers)) ]
+          after b = elim b [ true ↦ (No, s) | false ↦ told d (check-node ls t 0 d (s .readers)) ]
 
           go : (b : Bool) → P (after b .1 .readers)
           go true = p
-          go false = told-keeps d (test ls t 0 d (s .readers)) (test-holds t 0 h d (s .readers) p)
+          go false = told-keeps d (check-node ls t 0 d (s .readers)) (check-holds t 0 h d (s .readers) p)
       step-keeps s other p = p
 
       pub steps-keep : (cs : List Call) (s : State) → P (s .readers) → P (steps ls t s cs .1 .readers)
@@ -274,8 +274,7 @@ module _ (ls : List (List ℕ)) where
       leaves-keep : (t : Tree) (i : ℕ) → i + size t ≤ 48 → Stands bounds i (lengths ls t) → Leaves-keep (Counted bounds) ls t i
       leaves-keep (leaf k) i h s = read-keeps bounds (getD ls k []) i (omega arith) (ap (λ (n : ℕ). getD bounds n 0) (omega arith) ∙ s 0 (omega arith))
       leaves-keep (difference a b) i h s =
-          let s′ : Stands bounds (1 + i) (lengths ls a ++ lengths ls b) = stands-tail bounds (lengths ls a ++ lengths ls b) i 0 s in
-          (
+          let s′ : Stands bounds (1 + i) (lengths ls a ++ lengths ls b) = stands-tail bounds (lengths ls a ++ lengths ls b) i 0 s in (
             leaves-keep a (1 + i) (omega arith) (stands-left bounds (lengths ls a) (lengths ls b) (1 + i) s′),
             leaves-keep b (1 + i + size a) (omega arith) (stands-right bounds (lengths ls a) (lengths ls b) (1 + i) (size a) (lengths-size a) s′),
           )

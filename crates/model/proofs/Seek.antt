@@ -161,14 +161,17 @@ module _ (i m j : ℕ) (F G : Set) (im : i ≤ m) (mj : m ≤ j) (Fl : Local i m
       let b : After i j D e ps (rs .places) = meet-after not e x ps qs (rs .places) (l .gap) a (s .0) in
       test-case (Sought i j D e ps) (eqb x y) _ _
       (λ h. again i j D e (suc x) ps (rs .places) (omega (arith, l .from)) b
-        (λ z h₁ h₂. split (D ps z ≡ false) z x (λ lt. cc (l .gap z h₁ lt)) (λ ge. let zx : z ≡ x = omega arith in cc (zx, eqb-true x y h, l .is, s .1 .is, kept e ps qs a y)))
-        (re (suc x) rs) (ih rs (omega (arith, b .kept .long))))
-      (λ h. (b, record {
-        from = l .from;
-        small = l .small;
-        is = cc (l .is, s .1 .gap x (omega arith) (omega (arith, s .1 .from, eqb-false x y h)), kept e ps qs a x);
-        gap = λ z h₁ h₂. cc (l .gap z h₁ h₂);
-      }))
+      (λ z h₁ h₂. split (D ps z ≡ false) z x (λ lt. cc (l .gap z h₁ lt)) (λ ge. let zx : z ≡ x = omega arith in cc (zx, eqb-true x y h, l .is, s .1 .is, kept e ps qs a y)))
+      (re (suc x) rs) (ih rs (omega (arith, b .kept .long))))
+      (λ h. (
+        b,
+        record {
+          from = l .from;
+          small = l .small;
+          is = cc (l .is, s .1 .gap x (omega arith) (omega (arith, s .1 .from, eqb-false x y h)), kept e ps qs a x);
+          gap = λ z h₁ h₂. cc (l .gap z h₁ h₂);
+        },
+      ))
 
   diff-seek : (f g : Seek) → Seeks i m F f → Seeks m j G g → (n e : ℕ) (rs : Readers) → top < n + e → e ≤ top → j ≤ length (rs .places) → Sought i j D e (rs .places) (differ n f g e rs)
   unfolding differ
@@ -177,7 +180,7 @@ module _ (i m j : ℕ) (F G : Set) (im : i ≤ m) (mj : m ≤ j) (Fl : Local i m
       on-case (Sought i m F e (rs .places)) (Sought i j D e (rs .places)) _ _ (f e rs) (Ff e rs et (omega arith))
       (λ rs₁ s. (meet-first not e (rs .places) (rs₁ .places) (s .0), λ x h. cc (s .1 x h)))
       (λ x rs₁ s. diff-second e x (rs .places) (rs₁ .places) jl (s .1) (s .0) (g x rs₁) (Gg x rs₁ (omega (arith, s .1 .small)) (omega (arith, s .0 .kept .long))) (differ n f g)
-        (λ rs₂ h. diff-seek f g Ff Gg n (suc x) rs₂ (omega (arith, s .1 .from)) (omega (arith, s .1 .small)) h))
+      (λ rs₂ h. diff-seek f g Ff Gg n (suc x) rs₂ (omega (arith, s .1 .from)) (omega (arith, s .1 .small)) h))
 
   -- intersection
   abbrev self : Bool → Bool
@@ -208,14 +211,17 @@ module _ (i m j : ℕ) (F G : Set) (im : i ≤ m) (mj : m ≤ j) (Fl : Local i m
       on-case (Sought i m F e (rs .places)) (Passed i j I e (rs .places)) _ _ (f e rs) (Ff e rs et (omega arith))
       (λ rs₁ s. (meet-first self e (rs .places) (rs₁ .places) (s .0), λ x h. cc (s .1 x h)))
       (λ x rs₁ s. test-case (Passed i j I e (rs .places)) (ltb e x) _ _
-        (λ h. (meet-first self e (rs .places) (rs₁ .places) (s .0), record {
+      (λ h. (
+        meet-first self e (rs .places) (rs₁ .places) (s .0),
+        record {
           from = s .1 .from;
           small = s .1 .small;
           same = λ q. absurd (omega (arith, ltb-true e x h));
           gap = λ z h h′. cc (s .1 .gap z h h′);
-        }))
-        (λ h. let ex : x ≡ e = omega (arith, ltb-false e x h, s .1 .from) in
-          follow-on e (rs .places) (rs₁ .places) (s .0) (cc (ex, s .1 .is)) (g e rs₁) (Gg e rs₁ et (omega (arith, s .0 .kept .long)))))
+        },
+      ))
+      (λ h. let ex : x ≡ e = omega (arith, ltb-false e x h, s .1 .from) in
+      follow-on e (rs .places) (rs₁ .places) (s .0) (cc (ex, s .1 .is)) (g e rs₁) (Gg e rs₁ et (omega (arith, s .0 .kept .long)))))
 
   -- the first answered x: where the others answer above it, the step is repeated from there
   inter-rest : (e x : ℕ) (ps qs : List ℕ) → j ≤ length ps → Least F e ps x → After i m F e ps qs → (r : Found) → Passed m j G x qs r → (re : Seek)
@@ -229,14 +235,17 @@ module _ (i m j : ℕ) (F G : Set) (im : i ≤ m) (mj : m ≤ j) (Fl : Local i m
       let b : After i j I e ps (rs .places) = meet-after self e x ps qs (rs .places) (l .gap) a (s .0) in
       test-case (Sought i j I e ps) (ltb x y) _ _
       (λ h. again i j I e y ps (rs .places) (omega (arith, l .from, s .1 .from)) b
-        (λ z h₁ h₂. split (I ps z ≡ false) z x (λ lt. cc (l .gap z h₁ lt)) (λ ge. and-right (F ps z) (G ps z) (cc (s .1 .gap z ge h₂, kept e ps qs a z))))
-        (re y rs) (ih y rs (ltb-true x y h) (s .1 .small) (omega (arith, b .kept .long))))
-      (λ h. (b, record {
-        from = l .from;
-        small = l .small;
-        is = cc (l .is, s .1 .same (omega (arith, s .1 .from, ltb-false x y h)), kept e ps qs a x);
-        gap = λ z h₁ h₂. cc (l .gap z h₁ h₂);
-      }))
+      (λ z h₁ h₂. split (I ps z ≡ false) z x (λ lt. cc (l .gap z h₁ lt)) (λ ge. and-right (F ps z) (G ps z) (cc (s .1 .gap z ge h₂, kept e ps qs a z))))
+      (re y rs) (ih y rs (ltb-true x y h) (s .1 .small) (omega (arith, b .kept .long))))
+      (λ h. (
+        b,
+        record {
+          from = l .from;
+          small = l .small;
+          is = cc (l .is, s .1 .same (omega (arith, s .1 .from, ltb-false x y h)), kept e ps qs a x);
+          gap = λ z h₁ h₂. cc (l .gap z h₁ h₂);
+        },
+      ))
 
   inter-seek : (f g : Seek) → Seeks i m F f → Passes m j G g → (n e : ℕ) (rs : Readers) → top < n + e → e ≤ top → j ≤ length (rs .places) → Sought i j I e (rs .places) (intersect n f g e rs)
   unfolding intersect
@@ -245,7 +254,7 @@ module _ (i m j : ℕ) (F G : Set) (im : i ≤ m) (mj : m ≤ j) (Fl : Local i m
       on-case (Sought i m F e (rs .places)) (Sought i j I e (rs .places)) _ _ (f e rs) (Ff e rs et (omega arith))
       (λ rs₁ s. (meet-first self e (rs .places) (rs₁ .places) (s .0), λ x h. cc (s .1 x h)))
       (λ x rs₁ s. inter-rest e x (rs .places) (rs₁ .places) jl (s .1) (s .0) (g x rs₁) (Gg x rs₁ (omega (arith, s .1 .small)) (omega (arith, s .0 .kept .long))) (intersect n f g)
-        (λ y rs₂ h₁ h₂ h₃. inter-seek f g Ff Gg n y rs₂ (omega (arith, s .1 .from)) (omega arith) h₃))
+      (λ y rs₂ h₁ h₂ h₃. inter-seek f g Ff Gg n y rs₂ (omega (arith, s .1 .from)) (omega arith) h₃))
 
 -- reader
 pub passed-on : (y : ℕ) (ys : List ℕ) (e : ℕ) → ltb y e ≡ true → passed (y ∷ ys) e ≡ suc (passed ys e)

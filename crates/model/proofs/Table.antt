@@ -5,7 +5,7 @@ use mathlib.Core.List.{List, [], _∷_, _++_, map}
 use Prim.Native.Nat.{ℕ, _+_, _-_}
 use lib.ListN.{replicate, length}
 use Rattle.model.specs.declared.Reply.{Reply}
-use Rattle.model.specs.declared.Reply.the-variants.{Member, Finished, Yes, No}
+use Rattle.model.specs.declared.Reply.the-variants.{Member, Finished, Yes, No, Unknown}
 use Rattle.model.specs.Outcome.{Outcome, refused, accepted, Sent, sent, over}
 use Rattle.model.specs.Lists
 use Rattle.model.specs.Expression.{Tree, leaf, difference, union, intersection, Members, one, more, size, sizes, count}
@@ -19,12 +19,12 @@ use Rattle.model.specs.Forms
 use Rattle.model.specs.Forms.{row, packed, read-row, read-packed}
 use Rattle.model.specs.Delivery
 use Rattle.model.specs.Delivery.{delivery, read-delivery}
-use Rattle.model.specs.Calls.{unpack, pack, decode, encode-lists, run-call, ends-from}
+use Rattle.model.specs.Calls.{unpack-expression, pack-expression, decode-delivery, encode-delivery, run-call, ends-from}
 use Rattle.model.specs.Program.{halves, Listing, listing}
 
 -- opens the definitions: under `unfolding computes` each side of a table computes
 computes : Unit {0}
-unfolding machine reply draw Sets.least-from Sets.least Sets.lower Sets.concat Sets.member Sets.among size run Run.begin Run.steps Run.step Run.drawn Run.told Steps.seek Steps.test Steps.read Steps.answer Steps.passed Steps.fuel Steps.differ Steps.unite Steps.follow Steps.intersect Steps.is-at Steps.turned Steps.on-yes Steps.on-no read-packed Forms.read-tree Forms.read-below Forms.operator Forms.read-members Forms.take-node Forms.take-kind Forms.take-rest Fields.take-field Fields.bits Fields.field Fields.value Fields.bit Fields.only-fill Fields.zeros packed Forms.packed-nodes Forms.packed-node Forms.nodes Fields.bytes Fields.fill count read-delivery Delivery.read-lists Delivery.read-list Delivery.read-body Delivery.read-later Delivery.read-gaps Delivery.width Delivery.width-from Delivery.largest-gap Lists.count-holds delivery Delivery.lists-bits Delivery.list-bits Delivery.body-bits Delivery.gap-bits sent over unpack pack decode encode-lists run-call run-of Run.source-of Lists.lists-of Lists.lists-from Lists.part Lists.ends-hold Lists.all-ascending Lists.ascending Lists.rises read-row Forms.take-byte Forms.node-of Forms.is-empty ends-from row sizes Forms.row-byte encode calls call listing halves Sets.members-from Sets.select Sets.insert
+unfolding machine reply draw Sets.least-from Sets.least Sets.lower Sets.all-numbers Sets.member Sets.among size run Run.begin Run.steps Run.step Run.drawn Run.told Steps.seek Steps.check-node Steps.read Steps.answer Steps.passed Steps.fuel Steps.differ Steps.unite Steps.follow Steps.intersect Steps.is-at Steps.turned Steps.on-yes Steps.on-no read-packed Forms.read-tree Forms.read-below Forms.operator Forms.read-members Forms.take-node Forms.take-kind Forms.take-rest Fields.take-field Fields.bits Fields.field Fields.value Fields.bit Fields.only-fill Fields.zeros packed Forms.packed-nodes Forms.packed-node Forms.nodes Fields.bytes Fields.fill count read-delivery Delivery.read-lists Delivery.read-list Delivery.read-body Delivery.read-later Delivery.read-gaps Delivery.width Delivery.width-from Delivery.largest-gap Lists.count-holds delivery Delivery.lists-bits Delivery.list-bits Delivery.body-bits Delivery.gap-bits sent over unpack-expression pack-expression decode-delivery encode-delivery run-call run-of Run.source-of Lists.lists-of Lists.lists-from Lists.part Lists.ends-hold Lists.all-ascending Lists.ascending Lists.rises read-row Forms.take-byte Forms.node-of Forms.is-empty ends-from row sizes Forms.row-byte encode calls call listing halves Sets.members-from Sets.select Sets.insert
 computes = tt
 
 -- L0 to L3 of the report's figures 1 to 3
@@ -191,26 +191,66 @@ pub papers : Papers
 unfolding computes
 papers = record { P1-to-P7 = refl; P8-read = refl; P8-written = refl; P9-read = refl; P9-written = refl }
 
+-- 01's slipping points that no P shows, and a call of each code: a number that two union members hold is handed out
+-- once; a difference whose second part has finished goes on; past D, a check that only the second union member answers,
+-- and code 4, after which the next call is unaffected
+abbrev pub slips : List Row
+slips =
+    record {
+      lists = (5 ∷ []) ∷ (5 ∷ 6 ∷ []) ∷ [];
+      tree = union (more (leaf 0) (one (leaf 1)));
+      bookmark = 0;
+      calls = replicate 3 next;
+      replies = Member 5 ∷ Member 6 ∷ Finished ∷ [];
+      last = 4294967296;
+      moves = 3;
+      places = 0 ∷ 1 ∷ 2 ∷ [];
+    } ∷
+    record {
+      lists = (1 ∷ 2 ∷ 3 ∷ []) ∷ (1 ∷ []) ∷ [];
+      tree = difference (leaf 0) (leaf 1);
+      bookmark = 0;
+      calls = replicate 3 next;
+      replies = Member 2 ∷ Member 3 ∷ Finished ∷ [];
+      last = 4294967296;
+      moves = 4;
+      places = 0 ∷ 3 ∷ 1 ∷ [];
+    } ∷
+    record {
+      lists = (5 ∷ []) ∷ (5 ∷ 6 ∷ 7 ∷ []) ∷ [];
+      tree = union (more (leaf 0) (one (leaf 1)));
+      bookmark = 0;
+      calls = call 3 6 ∷ call 4 0 ∷ call 2 6 ∷ call 1 6 ∷ [];
+      replies = Yes ∷ Unknown ∷ Member 7 ∷ Finished ∷ [];
+      last = 4294967296;
+      moves = 4;
+      places = 0 ∷ 1 ∷ 3 ∷ [];
+    } ∷ []
+
+pub slipping-points : map computed slips ≡ map stated slips
+unfolding computes
+slipping-points = refl
+
 abbrev eight-of-list-0 : List ℕ
 eight-of-list-0 = 136 ∷ replicate 8 0
 
--- the refusal table's small inputs in its order, 1 to 14, each with a lent row of 7s
+-- the refusal table's small inputs in its order, 1 to 14, and the byte behind the last known one, each with lent rows of 7s
 abbrev pub refused-inputs : List Sent
 refused-inputs =
-    unpack [] 1 lent ∷
-    pack (136 ∷ (eight-of-list-0 ++ eight-of-list-0 ++ eight-of-list-0 ++ eight-of-list-0 ++ eight-of-list-0 ++ replicate 3 0)) 1 lent ∷
-    unpack (0x84 ∷ 0x21 ∷ 0x08 ∷ 0x42 ∷ 0x10 ∷ 0x84 ∷ 0x21 ∷ 0x00 ∷ 0x00 ∷ []) 1 lent ∷
-    unpack (0x02 ∷ []) 1 lent ∷
-    unpack (0x01 ∷ []) 1 lent ∷
-    decode (0x04 ∷ 0x00 ∷ 0x0C ∷ 0x00 ∷ 0x00 ∷ 0x00 ∷ 0x08 ∷ 0x08 ∷ []) lent lent ∷
-    decode (0x00 ∷ []) lent lent ∷
-    decode (0x04 ∷ 0x00 ∷ 0x0B ∷ 0xFF ∷ 0xFF ∷ 0xFF ∷ 0xFC ∷ 0x00 ∷ []) lent lent ∷
-    decode (0x04 ∷ 0x00 ∷ 0x08 ∷ 0x00 ∷ 0x00 ∷ 0x00 ∷ 0x08 ∷ 0x20 ∷ []) lent lent ∷
-    encode-lists (2 ∷ 3 ∷ []) (2 ∷ 1 ∷ []) lent ∷
-    encode-lists (5 ∷ 5 ∷ []) (2 ∷ []) lent ∷
+    unpack-expression [] 1 lent ∷
+    pack-expression (136 ∷ (eight-of-list-0 ++ eight-of-list-0 ++ eight-of-list-0 ++ eight-of-list-0 ++ eight-of-list-0 ++ replicate 3 0)) 1 lent ∷
+    unpack-expression (0x84 ∷ 0x21 ∷ 0x08 ∷ 0x42 ∷ 0x10 ∷ 0x84 ∷ 0x21 ∷ 0x00 ∷ 0x00 ∷ []) 1 lent ∷
+    unpack-expression (0x02 ∷ []) 1 lent ∷
+    unpack-expression (0x01 ∷ []) 1 lent ∷
+    decode-delivery (0x04 ∷ 0x00 ∷ 0x0C ∷ 0x00 ∷ 0x00 ∷ 0x00 ∷ 0x08 ∷ 0x08 ∷ []) lent lent ∷
+    decode-delivery (0x00 ∷ []) lent lent ∷
+    decode-delivery (0x04 ∷ 0x00 ∷ 0x0B ∷ 0xFF ∷ 0xFF ∷ 0xFF ∷ 0xFC ∷ 0x00 ∷ []) lent lent ∷
+    decode-delivery (0x04 ∷ 0x00 ∷ 0x08 ∷ 0x00 ∷ 0x00 ∷ 0x00 ∷ 0x08 ∷ 0x20 ∷ []) lent lent ∷
+    encode-delivery (2 ∷ 3 ∷ []) (2 ∷ 1 ∷ []) lent ∷
+    encode-delivery (5 ∷ 5 ∷ []) (2 ∷ []) lent ∷
     run-call (5 ∷ []) (1 ∷ []) (0x00 ∷ []) 4294967297 (0 ∷ []) (0 ∷ []) lent ∷
     run-call (5 ∷ []) (1 ∷ []) (0x00 ∷ []) 0 (0 ∷ []) [] lent ∷
-    pack (32 ∷ []) 1 lent ∷ []
+    pack-expression (32 ∷ []) 1 lent ∷ pack-expression (201 ∷ replicate 9 0) 1 lent ∷ []
   where
     lent : List ℕ
     lent = 7 ∷ 7 ∷ []
@@ -220,17 +260,17 @@ refusal n parts rows = record { number = n; parts = replicate parts 0; rows = re
 
 pub refusals : refused-inputs ≡
     refusal 1 1 1 ∷ refusal 2 1 1 ∷ refusal 3 1 1 ∷ refusal 4 1 1 ∷ refusal 5 1 1 ∷ refusal 6 2 2 ∷ refusal 7 2 2 ∷ refusal 8 2 2 ∷ refusal 9 2 2 ∷
-    refusal 10 1 1 ∷ refusal 11 1 1 ∷ refusal 12 50 1 ∷ refusal 13 50 1 ∷ refusal 14 1 1 ∷ []
+    refusal 10 1 1 ∷ refusal 11 1 1 ∷ refusal 12 50 1 ∷ refusal 13 50 1 ∷ refusal 14 1 1 ∷ refusal 14 1 1 ∷ []
 unfolding computes
 refusals = refl
 
 -- what success sends back: the parts in 01's order, and behind the written elements what the row held. P8 unpacked and
 -- packed, P9 read and written, and a run with every kind of reply over the list 2 3 5
 pub successes :
-    unpack (0x40 ∷ 0x01 ∷ []) 2 (7 ∷ 7 ∷ 7 ∷ 7 ∷ []) ∷
-    pack (64 ∷ 0 ∷ 1 ∷ []) 2 (7 ∷ 7 ∷ 7 ∷ []) ∷
-    decode (0x04 ∷ 0x00 ∷ 0x0C ∷ 0x00 ∷ 0x00 ∷ 0x00 ∷ 0x08 ∷ 0x08 ∷ []) (7 ∷ 7 ∷ 7 ∷ 7 ∷ []) (7 ∷ 7 ∷ []) ∷
-    encode-lists (2 ∷ 3 ∷ 5 ∷ 7 ∷ []) (3 ∷ []) (replicate 9 7) ∷
+    unpack-expression (0x40 ∷ 0x01 ∷ []) 2 (7 ∷ 7 ∷ 7 ∷ 7 ∷ []) ∷
+    pack-expression (64 ∷ 0 ∷ 1 ∷ []) 2 (7 ∷ 7 ∷ 7 ∷ []) ∷
+    decode-delivery (0x04 ∷ 0x00 ∷ 0x0C ∷ 0x00 ∷ 0x00 ∷ 0x00 ∷ 0x08 ∷ 0x08 ∷ []) (7 ∷ 7 ∷ 7 ∷ 7 ∷ []) (7 ∷ 7 ∷ []) ∷
+    encode-delivery (2 ∷ 3 ∷ 5 ∷ 7 ∷ []) (3 ∷ []) (replicate 9 7) ∷
     run-call (2 ∷ 3 ∷ 5 ∷ []) (3 ∷ []) (0x00 ∷ []) 0 (3 ∷ 4 ∷ 0 ∷ 2 ∷ 3 ∷ 1 ∷ []) (2 ∷ 9 ∷ 9 ∷ 2 ∷ 2 ∷ 6 ∷ []) (replicate 7 7) ∷ []
     ≡
     record { number = 0; parts = 3 ∷ []; rows = (64 ∷ 0 ∷ 1 ∷ 7 ∷ []) ∷ [] } ∷

@@ -6,7 +6,7 @@ use lib.ListN.{length}
 use Rattle.model.specs.Outcome.{Outcome, refused, accepted, _>>=_, _>>_, require, Sent, Success, sent}
 use Rattle.model.specs.Lists.{count-holds, lists-of}
 use Rattle.model.specs.Expression.{size}
-use Rattle.model.specs.Sets.{concat}
+use Rattle.model.specs.Sets.{all-numbers}
 use Rattle.model.specs.Machine.{encode}
 use Rattle.model.specs.Run.{run-of}
 use Rattle.model.specs.Forms.{row, packed, read-row, read-packed}
@@ -18,30 +18,30 @@ ends-from start [] = []
 ends-from start (l ∷ ls) = (start + length l) ∷ ends-from (start + length l) ls
 
 -- packed expression to row form: "Reading checks 7 first"; "After the last: 5, then 6"; the nodes
-unfoldable pub unpack : List ℕ → ℕ → List ℕ → Sent
-unpack bytes lists lent = sent 1 (lent ∷ []) (do
+unfoldable pub unpack-expression : List ℕ → ℕ → List ℕ → Sent
+unpack-expression bytes lists lent = sent 1 (lent ∷ []) (do
   require 7 (count-holds lists)
   t ← read-packed lists bytes
   require 6 (leb (size t) (length lent))
   accepted (record { parts = size t ∷ []; written = row t ∷ [] }))
 
 -- row form to packed expression; the bytes
-unfoldable pub pack : List ℕ → ℕ → List ℕ → Sent
-pack bytes lists lent = sent 1 (lent ∷ []) (do
+unfoldable pub pack-expression : List ℕ → ℕ → List ℕ → Sent
+pack-expression bytes lists lent = sent 1 (lent ∷ []) (do
   require 7 (count-holds lists)
   t ← read-row lists bytes
   require 6 (leb (length (packed t)) (length lent))
   accepted (record { parts = length (packed t) ∷ []; written = packed t ∷ [] }))
 
 -- a delivery read; "the lists and the numbers"
-unfoldable pub decode : List ℕ → List ℕ → List ℕ → Sent
-decode bytes lent-numbers lent-ends = sent 2 (lent-numbers ∷ lent-ends ∷ []) (do
+unfoldable pub decode-delivery : List ℕ → List ℕ → List ℕ → Sent
+decode-delivery bytes lent-numbers lent-ends = sent 2 (lent-numbers ∷ lent-ends ∷ []) (do
   ls ← read-delivery (length lent-numbers) (length lent-ends) bytes
-  accepted (record { parts = length ls ∷ length (concat ls) ∷ []; written = concat ls ∷ ends-from 0 ls ∷ [] }))
+  accepted (record { parts = length ls ∷ length (all-numbers ls) ∷ []; written = all-numbers ls ∷ ends-from 0 ls ∷ [] }))
 
 -- a delivery written: "Writing checks 7, 10, 11, 6"; the bytes
-unfoldable pub encode-lists : List ℕ → List ℕ → List ℕ → Sent
-encode-lists numbers ends lent = sent 1 (lent ∷ []) (do
+unfoldable pub encode-delivery : List ℕ → List ℕ → List ℕ → Sent
+encode-delivery numbers ends lent = sent 1 (lent ∷ []) (do
   ls ← lists-of numbers ends
   require 6 (leb (length (delivery ls)) (length lent))
   accepted (record { parts = length (delivery ls) ∷ []; written = delivery ls ∷ [] }))

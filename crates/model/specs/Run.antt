@@ -10,7 +10,7 @@ use Rattle.model.specs.Outcome.{Outcome, refused, accepted, _>>=_, _>>_,
 use Rattle.model.specs.Lists.{top, lists-of}
 use Rattle.model.specs.Expression.{Tree}
 use Rattle.model.specs.Machine.{Call, next, at-or-past, past, check, other, calls}
-use Rattle.model.specs.Steps.{Readers, Found, end, at, Checked, says, seek, test}
+use Rattle.model.specs.Steps.{Readers, Found, end, at, Checked, says, seek, check-node}
 use Rattle.model.specs.Forms.{read-packed}
 
 pub record State : Type 0 where
@@ -30,7 +30,7 @@ unfoldable pub step : List (List ℕ) → Tree → State → Call → Reply × S
 step ls t s next = drawn (seek ls t 0 (s .floor) (s .readers))
 step ls t s (at-or-past d) = drawn (seek ls t 0 (max (s .floor) d) (s .readers))
 step ls t s (past d) = drawn (seek ls t 0 (max (s .floor) (suc d)) (s .readers))
-step ls t s (check d) = elim (ltb d (s .floor)) [ true ↦ (No, s) | false ↦ told d (test ls t 0 d (s .readers)) ]
+step ls t s (check d) = elim (ltb d (s .floor)) [ true ↦ (No, s) | false ↦ told d (check-node ls t 0 d (s .readers)) ]
 step ls t s other = (Unknown, s)
 
 unfoldable pub steps : List (List ℕ) → Tree → State → List Call → List Reply × State

@@ -29,9 +29,9 @@ unfoldable mutual
   member-all ls (more t ts) x = member ls t x && member-all ls ts x
 
 -- all numbers of all lists: each member is one of them
-unfoldable pub concat : List (List ℕ) → List ℕ
-concat [] = []
-concat (l ∷ ls) = l ++ concat ls
+unfoldable pub all-numbers : List (List ℕ) → List ℕ
+all-numbers [] = []
+all-numbers (l ∷ ls) = l ++ all-numbers ls
 
 -- the least number of a row that passes a test
 unfoldable pub lower : ℕ → Option ℕ → Option ℕ
@@ -44,7 +44,7 @@ least p (x ∷ xs) = elim (p x) [ true ↦ lower x (least p xs) | false ↦ leas
 
 -- "the least member not below the floor"
 unfoldable pub least-from : List (List ℕ) → Tree → ℕ → Option ℕ
-least-from ls t floor = least (λ x. leb floor x && member ls t x) (concat ls)
+least-from ls t floor = least (λ x. leb floor x && member ls t x) (all-numbers ls)
 
 -- the numbers of a row that pass a test, ascending, each once
 unfoldable pub insert : ℕ → List ℕ → List ℕ
@@ -57,4 +57,4 @@ select p (x ∷ xs) = elim (p x) [ true ↦ insert x (select p xs) | false ↦ s
 
 -- the members at or above a bookmark, ascending
 unfoldable pub members-from : List (List ℕ) → Tree → ℕ → List ℕ
-members-from ls t bookmark = select (λ x. leb bookmark x && member ls t x) (concat ls)
+members-from ls t bookmark = select (λ x. leb bookmark x && member ls t x) (all-numbers ls)

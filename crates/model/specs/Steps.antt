@@ -128,16 +128,16 @@ on-no (says false rs) next = next rs
 -- A4(2) to (4), "To check D": "A difference checks its first, and on yes its second, whose reply it turns round. A
 -- union checks in order until a yes, an intersection until a no"
 unfoldable mutual
-  pub test : List (List ℕ) → Tree → ℕ → Check
-  test ls (leaf k) i = λ d rs. is-at d (read (getD ls k []) i d rs)
-  test ls (difference s t) i = λ d rs. on-yes (test ls s (1 + i) d rs) (λ rs₁. turned (test ls t (1 + i + size s) d rs₁))
-  test ls (union ts) i = test-union ls ts (1 + i)
-  test ls (intersection ts) i = test-intersection ls ts (1 + i)
+  pub check-node : List (List ℕ) → Tree → ℕ → Check
+  check-node ls (leaf k) i = λ d rs. is-at d (read (getD ls k []) i d rs)
+  check-node ls (difference s t) i = λ d rs. on-yes (check-node ls s (1 + i) d rs) (λ rs₁. turned (check-node ls t (1 + i + size s) d rs₁))
+  check-node ls (union ts) i = check-union ls ts (1 + i)
+  check-node ls (intersection ts) i = check-intersection ls ts (1 + i)
 
-  pub test-union : List (List ℕ) → Members → ℕ → Check
-  test-union ls (one t) i = test ls t i
-  test-union ls (more t ts) i = λ d rs. on-no (test ls t i d rs) (test-union ls ts (i + size t) d)
+  pub check-union : List (List ℕ) → Members → ℕ → Check
+  check-union ls (one t) i = check-node ls t i
+  check-union ls (more t ts) i = λ d rs. on-no (check-node ls t i d rs) (check-union ls ts (i + size t) d)
 
-  pub test-intersection : List (List ℕ) → Members → ℕ → Check
-  test-intersection ls (one t) i = test ls t i
-  test-intersection ls (more t ts) i = λ d rs. on-yes (test ls t i d rs) (test-intersection ls ts (i + size t) d)
+  pub check-intersection : List (List ℕ) → Members → ℕ → Check
+  check-intersection ls (one t) i = check-node ls t i
+  check-intersection ls (more t ts) i = λ d rs. on-yes (check-node ls t i d rs) (check-intersection ls ts (i + size t) d)
