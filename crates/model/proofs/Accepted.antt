@@ -15,7 +15,7 @@ use Rattle.model.specs.Outcome.{Outcome, refused, accepted, _>>=_, _>>_,
 use Rattle.model.specs.Lists.{top, Numbers, rises, ascending, all-ascending, part, lists-from, lists-of, count-holds, ends-hold}
 use Rattle.model.specs.Expression.{Tree, leaf, difference, union, intersection, Members, one, more, size, sizes, depth, depths, count}
 use Rattle.model.specs.Fields.{bit, value, take-field, bits, only-fill}
-use Rattle.model.specs.Forms.{node-of, take-byte, take-rest, take-kind, take-node, read-members, operator, read-below, read-tree, is-empty, read-row, read-packed}
+use Rattle.model.specs.Forms.{node-of, take-byte, take-rest, take-kind, take-node, read-members, operator, read-below, read-tree, read-row, read-packed}
 use Rattle.model.specs.Demands.{Named, Named-all, Expression}
 use Rattle.model.proofs.Order.{and-true, split, Up}
 
@@ -250,7 +250,7 @@ pub row-reads : (lists : ℕ) (bs : List ℕ) (t : Tree) → read-row lists bs �
 unfolding read-row
 row-reads lists bs t e =
     let a = bound (read-tree lists take-byte 12 0 bs) _ t e in
-    let b = required 5 (is-empty (a .got .2)) _ t (a .rest) in
+    let b = required 5 (eqb (length (a .got .2)) 0) _ t (a .rest) in
     let q : a .got .0 ≡ t = cc (b .1) in
     rw (← q) (expression-read lists take-byte few-byte bs (a .got) (a .first))
 

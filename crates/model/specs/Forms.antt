@@ -123,14 +123,10 @@ module _ {S : Type 0} (lists : ℕ) (take : S → Outcome (Node × S)) where
     read-below (read-tree depth) node (suc done) rest
 
 -- "After the last: 5": of a row a node left over, of packed bits a whole byte or a fill bit of 1
-unfoldable pub is-empty : List ℕ → Bool
-is-empty [] = true
-is-empty (b ∷ bs) = false
-
 unfoldable pub read-row : ℕ → List ℕ → Outcome Tree
 read-row lists bs = do
   (t, done, rest) ← read-tree lists take-byte 12 0 bs
-  require 5 (is-empty rest)
+  require 5 (eqb (length rest) 0)
   accepted t
 
 unfoldable pub read-packed : ℕ → List ℕ → Outcome Tree

@@ -43,7 +43,8 @@ read l i e rs =
     let n = passed (drop place l) e in
     answer (drop (place + n) l) (record { places = set (rs .places) i (place + n); moves = rs .moves + n })
 
--- how often a step may repeat: it repeats at a higher number, and no seek answers past 4,294,967,295
+-- how often a step may repeat: it repeats at a higher number, and no seek answers past 4,294,967,295, so that the
+-- clauses at zero below are never come to (proofs/Fuel.antt)
 unfoldable pub fuel : ℕ
 fuel = suc top
 
