@@ -21,7 +21,7 @@ use Rattle.model.proofs.Order.{and-true, split, Up}
 
 -- ---- outcomes
 
-never-accepted : {A B : Type 0} {n : ℕ} {b : B} → refused n ≡ accepted b → A
+pub never-accepted : {A B : Type 0} {n : ℕ} {b : B} → refused n ≡ accepted b → A
 never-accepted {A} {B} {n} {b} h = let z : _≡_ {A = ℕ} 0 1 = cc in absurd (omega arith)
 
 pub accepted-same : {A : Type 0} {a b : A} → accepted a ≡ accepted b → a ≡ b
@@ -102,7 +102,7 @@ record Read-all (lists d done n : ℕ) (ts : Members) (after : ℕ) : Type 0 whe
   many : count ts ≡ suc n
 
 -- an operator of 1 to 8 member nodes
-abbrev Few : Node → Type 0
+abbrev pub Few : Node → Type 0
 Few (Leaf k) = Unit {0}
 Few Difference = Unit {0}
 Few (Union n) = (1 ≤ n) × (n ≤ 8)
@@ -204,7 +204,7 @@ few-node b n e = go (leb b 31) (eqb b 64) (leb 129 b && leb b 136) refl (leb 193
         accepted-is e (omega (arith, leb-true 193 b (c .0)), omega (arith, leb-true b 200 (c .1)))
     go false false false hr false hs e = never-accepted e
 
-few-byte : (s : List ℕ) (r : Node × List ℕ) → take-byte s ≡ accepted r → Few (r .0)
+pub few-byte : (s : List ℕ) (r : Node × List ℕ) → take-byte s ≡ accepted r → Few (r .0)
 unfolding take-byte
 few-byte [] r e = never-accepted e
 few-byte (b ∷ bs) r e =
@@ -241,7 +241,7 @@ few-kind (suc zero) bs r e = let q : (Difference, bs) ≡ r = cc in rw (← q) t
 few-kind (suc (suc zero)) bs r e = few-rest 3 (λ n. Union (n + 1)) (λ n h. (omega arith, omega arith)) bs r e
 few-kind (suc (suc (suc kind))) bs r e = few-rest 3 (λ n. Intersection (n + 1)) (λ n h. (omega arith, omega arith)) bs r e
 
-few-packed : (s : List Bool) (r : Node × List Bool) → take-node s ≡ accepted r → Few (r .0)
+pub few-packed : (s : List Bool) (r : Node × List Bool) → take-node s ≡ accepted r → Few (r .0)
 unfolding take-node
 few-packed s r e = let a = bound (take-field 2 s) _ r e in few-kind (a .got .0) (a .got .1) r (a .rest)
 

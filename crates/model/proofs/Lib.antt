@@ -11,4 +11,7 @@ pub mod Places
 pub mod Accepted
 pub mod DemandThree
 pub mod Fuel
+pub mod Deliveries
 pub mod Listing
+pub mod Bits
+pub mod Trees

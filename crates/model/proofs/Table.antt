@@ -24,7 +24,7 @@ use Rattle.model.specs.Program.{halves, Listing, listing}
 
 -- opens the definitions: under `unfolding computes` each side of a table computes
 computes : Unit {0}
-unfolding machine reply draw Sets.least-from Sets.least Sets.lower Sets.all-numbers Sets.member Sets.among size run Run.begin Run.steps Run.step Run.drawn Run.told Steps.seek Steps.check-node Steps.read Steps.answer Steps.passed Steps.fuel Steps.differ Steps.unite Steps.follow Steps.intersect Steps.is-at Steps.turned Steps.on-yes Steps.on-no read-packed Forms.read-tree Forms.read-below Forms.operator Forms.read-members Forms.take-node Forms.take-kind Forms.take-rest Fields.take-field Fields.bits Fields.field Fields.value Fields.bit Fields.only-fill Fields.zeros packed Forms.packed-nodes Forms.packed-node Forms.nodes Fields.bytes Fields.fill count read-delivery Delivery.read-lists Delivery.read-list Delivery.read-body Delivery.read-later Delivery.read-gaps Delivery.width Delivery.width-from Delivery.largest-gap Lists.count-holds delivery Delivery.lists-bits Delivery.list-bits Delivery.body-bits Delivery.gap-bits sent over unpack-expression pack-expression decode-delivery encode-delivery run-call run-of Run.source-of Lists.lists-of Lists.lists-from Lists.part Lists.ends-hold Lists.all-ascending Lists.ascending Lists.rises read-row Forms.take-byte Forms.node-of ends-from row sizes Forms.row-byte encode calls call listing halves Sets.members-from Sets.select Sets.insert
+unfolding machine reply draw Sets.least-from Sets.least Sets.lower Sets.all-numbers Sets.member Sets.among size run Run.begin Run.steps Run.step Run.drawn Run.told Steps.seek Steps.check-node Steps.read Steps.answer Steps.passed Steps.fuel Steps.differ Steps.unite Steps.follow Steps.intersect Steps.is-at Steps.turned Steps.on-yes Steps.on-no read-packed Forms.read-tree Forms.read-below Forms.operator Forms.read-members Forms.take-node Forms.take-kind Forms.take-rest Fields.take-field Fields.bits Fields.field Fields.value Fields.bit Fields.only-fill Fields.zeros packed Forms.packed-nodes Forms.packed-node Forms.nodes Fields.bytes Fields.fill count read-delivery Delivery.read-lists Delivery.read-list Delivery.read-body Delivery.read-later Delivery.read-gaps Delivery.width Delivery.width-from Delivery.largest-gap Lists.count-holds delivery Delivery.lists-bits Delivery.list-bits Delivery.body-bits Delivery.later-bits Delivery.gap-bits sent over unpack-expression pack-expression decode-delivery encode-delivery run-call run-of Run.source-of Lists.lists-of Lists.lists-from Lists.part Lists.ends-hold Lists.all-ascending Lists.ascending Lists.rises read-row Forms.take-byte Forms.node-of ends-from row sizes Forms.row-byte encode calls call listing halves Sets.members-from Sets.select Sets.insert
 computes = tt
 
 -- L0 to L3 of the report's figures 1 to 3

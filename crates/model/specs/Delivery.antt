@@ -27,13 +27,15 @@ unfoldable pub gap-bits : ℕ → ℕ → List ℕ → List Bool
 gap-bits w last [] = []
 gap-bits w last (x ∷ xs) = field w (x - last - 1) ++ gap-bits w x xs
 
--- "if 1 or more, 32 bits of first number; if 2 or more, 5 bits of width minus 1", then the gaps
+-- "if 2 or more, 5 bits of width minus 1", then the gaps: the numbers behind the first
+unfoldable pub later-bits : ℕ → List ℕ → List Bool
+later-bits first [] = []
+later-bits first (x ∷ xs) = let w = width (largest-gap first (x ∷ xs)) in field 5 (w - 1) ++ gap-bits w first (x ∷ xs)
+
+-- "if 1 or more, 32 bits of first number"
 unfoldable pub body-bits : List ℕ → List Bool
 body-bits [] = []
-body-bits (x ∷ []) = field 32 x
-body-bits (x ∷ y ∷ ys) =
-    let w = width (largest-gap x (y ∷ ys)) in
-    field 32 x ++ field 5 (w - 1) ++ gap-bits w x (y ∷ ys)
+body-bits (x ∷ xs) = field 32 x ++ later-bits x xs
 
 -- "Each list: 16 bits of count"
 unfoldable pub list-bits : List ℕ → List Bool

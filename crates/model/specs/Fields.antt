@@ -2,10 +2,14 @@
 -- fewer than eight".
 use mathlib.Core.Bool.{Bool, true, false, not, _&&_}
 use mathlib.Core.List.{List, [], _∷_, _++_}
-use Prim.Native.Nat.{ℕ, zero, suc, _+_, _*_, _/_, _%_, _^_}
+use Prim.Native.Nat.{ℕ, zero, suc, _+_, _*_, _/_, _%_, _^_, _<_}
 use lib.Dec.{ltb, leb, eqb}
-use lib.ListN.{length, take, drop, replicate}
+use lib.ListN.{length, getD, take, drop, replicate}
 use Rattle.model.specs.Outcome.{Outcome, refused, accepted, _>>_, require}
+
+-- what the type of an 8-bit element says of each element of a row
+abbrev pub Bytes : List ℕ → Type 0
+Bytes row = (i : ℕ) → getD row i 0 < 256
 
 -- a number as a field of w bits
 unfoldable pub field : ℕ → ℕ → List Bool
