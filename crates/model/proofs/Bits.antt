@@ -1,17 +1,17 @@
 -- Laws of fields, over the width: what was written as a field is taken off again, and what was taken off was written so;
 -- bits as bytes, and bytes as bits. Assumes nothing.
 use mathlib.Core.Path.{_≡_, refl, sym, ap, ap₂, _∙_}
-use mathlib.Core.Bool.{Bool, true, false, not, _&&_}
+use mathlib.Core.Bool.{Bool, true, false}
 use mathlib.Core.List.{List, [], _∷_, _++_, append-assoc, append-nil}
 use Prim.Native.Nat.{ℕ, zero, suc, _+_, _-_, _*_, _/_, _%_, _^_, _≤_, _<_}
 use native.Mathlib.Omega.{arith}
-use native.Mathlib.Nat.{mod-lt, mod-one, mod-eq-of-lt, mul-add-div-right, mul-add-mod-self-right, pow-suc, mul-assoc, zero-lt-suc}
+use native.Mathlib.Nat.{mod-lt, mod-one, mod-eq-of-lt, mul-add-div-right, mul-add-mod-self-right, pow-suc, zero-lt-suc}
 use lib.Dec.{ltb, leb, eqb}
 use lib.Pow.{pow-pos, mod-pow-add, high}
-use lib.ListN.{length, take, drop, getD, replicate, length-append, length-take, length-drop, take-append-drop, length-replicate}
+use lib.ListN.{length, take, drop, replicate, length-append, length-take, length-drop, take-append-drop, length-replicate}
 use lib.Seq.{take-at, drop-at, take-append-le, drop-append-le, take-append-add}
 use borrow.Author.Tests.{ltb-true, lt-ltb, leb-true, le-leb}
-use Rattle.model.specs.Outcome.{Outcome, refused, accepted, _>>_, require}
+use Rattle.model.specs.Outcome.{accepted}
 use Rattle.model.specs.Fields.{Bytes, field, bits, bit, value, take-field, zeros, only-fill, fill, bytes}
 use Rattle.model.proofs.Order.{and-true, not-both, split}
 use Rattle.model.proofs.Accepted.{required, accepted-same, value-lt}

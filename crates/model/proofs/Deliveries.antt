@@ -3,21 +3,21 @@
 use mathlib.Core.Path.{_≡_, refl, sym, ap, ap₂, _∙_}
 use mathlib.Core.Bool.{Bool, true, false}
 use mathlib.Core.List.{List, [], _∷_, _++_, append-assoc}
-use Prim.Native.Nat.{ℕ, zero, suc, _+_, _-_, _^_, _≤_, _<_, max}
+use Prim.Native.Nat.{ℕ, zero, suc, _+_, _-_, _^_, _≤_, _<_}
 use native.Mathlib.Omega.{arith}
 use native.Mathlib.Nat.{add-zero}
 use lib.Dec.{ltb, leb, eqb}
 use borrow.Author.Tests.{ltb-true, ltb-false, lt-ltb, leb-true, le-leb, eqb-true, eq-eqb}
 use lib.ListN.{getD, length, replicate, length-append}
-use Rattle.model.specs.Outcome.{Outcome, refused, accepted, _>>=_, _>>_, require}
+use Rattle.model.specs.Outcome.{accepted}
 use Rattle.model.specs.Lists.{top, count-holds}
 use Rattle.model.specs.Sets.{all-numbers}
-use Rattle.model.specs.Fields.{Bytes, field, bits, bytes, take-field, only-fill}
+use Rattle.model.specs.Fields.{Bytes, field, bits, take-field, only-fill}
 use Rattle.model.specs.Delivery.{largest-gap, width-from, width, gap-bits, later-bits, body-bits, list-bits, lists-bits, delivery, read-gaps, read-later, read-body, read-list, read-lists, read-delivery}
 use Rattle.model.specs.Demands.{Least-width}
 use Rattle.model.proofs.Order.{and-true, split, Up}
 use Rattle.model.proofs.Accepted.{accepted-same, bound, required, field-lt}
-use Rattle.model.proofs.Bits.{taken, was-field, Filled, filled, fill-only, bytes-are}
+use Rattle.model.proofs.Bits.{taken, was-field, filled, fill-only, bytes-are}
 
 -- ---- the width
 
@@ -151,7 +151,7 @@ later-back x (y ∷ ys) rest u =
       taken 5 (w - 1) (gap-bits w x (y ∷ ys) ++ rest) (omega (arith, s .1, s .2)),
       back,
       gaps-back w x (y ∷ ys) rest u (s .0),
-      eq-eqb w w refl
+      eq-eqb w w refl,
     )
 
 body-back : (l : List ℕ) (rest : List Bool) → Up 0 l → read-body (length l) (body-bits l ++ rest) ≡ accepted (l, rest)
@@ -177,7 +177,7 @@ lists-back room (l ∷ ls) rest s h =
     rw (
       append-assoc (list-bits l) (lists-bits ls) rest,
       list-back room l (lists-bits ls ++ rest) (s .0 .0) (omega (arith, n)) (s .0 .1),
-      lists-back (room - length l) ls rest (s .1) (omega (arith, n))
+      lists-back (room - length l) ls rest (s .1) (omega (arith, n)),
     )
 
 -- what is written from lists reads back as those lists
@@ -194,7 +194,7 @@ delivery-written numbers-room ends-room ls c s h₁ h₂ =
       c,
       le-leb (length ls) ends-room h₂,
       lists-back numbers-room ls zs s h₁,
-      fill-only (f .zeros-behind) (f .few)
+      fill-only (f .zeros-behind) (f .few),
     )
 
 -- ---- what reads was written
@@ -226,8 +226,8 @@ later-was (suc n) first bs r e =
     let q : (b .got .0, b .got .1) ≡ r = accepted-same (c .1) in
     rw (← q) (
       was-field 5 bs (a .got) (a .first)
-      ∙ ap (λ (l : List Bool). field 5 (a .got .0) ++ l) (y .0)
-      ∙ some (b .got .0) (b .got .1) (a .got .0) (y .1) (eqb-true (a .got .0 + 1) (width (largest-gap first (b .got .0))) (c .0)),
+          ∙ ap (λ (l : List Bool). field 5 (a .got .0) ++ l) (y .0)
+          ∙ some (b .got .0) (b .got .1) (a .got .0) (y .1) (eqb-true (a .got .0 + 1) (width (largest-gap first (b .got .0))) (c .0)),
       y .1,
     )
   where

@@ -1,23 +1,22 @@
 -- Demand 3, proved: the join, the plain machine's two laws and the bounds, gathered for one accepted run.
 -- Assumes nothing but that the elements of the rows of numbers are numbers, which their type says.
 use mathlib.Core.Path.{_≡_, refl, sym, ap, _∙_}
-use mathlib.Core.Bool.{Bool, true, false, _&&_}
-use mathlib.Core.List.{List, [], _∷_, _++_, map}
-use Prim.Native.Nat.{ℕ, zero, suc, _+_, _≤_, _<_, min}
+use mathlib.Core.Bool.{_&&_}
+use mathlib.Core.List.{List, [], _∷_, _++_}
+use Prim.Native.Nat.{ℕ, zero, suc, _+_, _≤_, _<_}
 use native.Mathlib.Omega.{arith}
 use lib.Dec.{leb, eqb}
 use borrow.Author.Tests.{leb-true, eqb-true, le-leb, eq-eqb}
 use lib.ListN.{getD, length, take, drop, replicate, length-take, length-drop, length-replicate}
 use Rattle.model.specs.declared.Reply.{Reply}
-use Rattle.model.specs.declared.Reply.the-variants.{Member, Finished}
-use Rattle.model.specs.Outcome.{Outcome, refused, accepted, _>>=_, _>>_, require}
+use Rattle.model.specs.Outcome.{accepted}
 use Rattle.model.specs.Lists.{top, Numbers, lists-of}
 use Rattle.model.specs.Expression.{Tree, size}
 use Rattle.model.specs.Sets.{members-from}
 use Rattle.model.specs.Machine.{Call, next, call, calls, machine}
 use Rattle.model.specs.Run.{Result, run, begin, steps, Source, source-of, run-of}
 use Rattle.model.specs.Forms.{read-packed}
-use Rattle.model.specs.Demands.{lengths, sum, Ran, Drawn, Broken, Demand-three}
+use Rattle.model.specs.Demands.{lengths, Ran, Drawn, Broken, Demand-three}
 use Rattle.model.proofs.Order.{and-true, Up}
 use Rattle.model.proofs.Denoted.{up-ascending, members-up, members-are}
 use Rattle.model.proofs.Plain.{machine-append, draws}

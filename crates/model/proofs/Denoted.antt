@@ -1,19 +1,19 @@
 -- The denoted set: every member is a number of some list at a leaf, what `least-from` is, and the members ascending.
 -- Assumes nothing.
-use mathlib.Core.Path.{_≡_, refl, sym, ap, _∙_, subst}
+use mathlib.Core.Path.{_≡_, refl, sym, ap, _∙_}
 use mathlib.Core.Bool.{Bool, true, false, not, _&&_, _||_}
 use mathlib.Core.List.{List, [], _∷_, _++_}
 use mathlib.Core.Option.{Option, none, some}
-use Prim.Native.Nat.{ℕ, zero, suc, _+_, _≤_, _<_, min}
+use Prim.Native.Nat.{ℕ, zero, suc, _≤_, _<_}
 use native.Mathlib.Omega.{arith}
 use lib.Dec.{ltb, leb, eqb}
-use borrow.Author.Tests.{lt-ltb, ltb-true, ltb-false, leb-true, le-leb, lt-leb, eqb-true, eqb-false, eq-eqb, ne-eqb}
+use borrow.Author.Tests.{lt-ltb, ltb-true, ltb-false, leb-true, le-leb, eqb-true, eqb-false, eq-eqb}
 use lib.ListN.{getD}
 use Rattle.model.specs.Lists.{top, rises, ascending}
 use Rattle.model.specs.Expression.{Tree, leaf, difference, union, intersection, Members, one, more}
 use Rattle.model.specs.Sets.{among, member, member-some, member-all, all-numbers, least, lower, least-from, insert, select, members-from}
 use Rattle.model.specs.Demands.{leaves, leaves-all}
-use Rattle.model.proofs.Order.{or-right, and-right, and-true, or-true, not-both, split, min-case, Up, up-low, up-none}
+use Rattle.model.proofs.Order.{or-right, and-right, and-true, or-true, not-both, split, min-case, Up}
 
 -- ---- where a member stands
 

@@ -1,32 +1,27 @@
 -- What the program lists is the denoted set, drawn by one run. Assumes nothing.
 use mathlib.Core.Path.{_≡_, refl, ap, _∙_, subst}
-use mathlib.Core.Bool.{Bool, true, false, _&&_}
-use mathlib.Core.List.{List, [], _∷_, _++_, map}
-use Prim.Native.Nat.{ℕ, zero, suc, _+_, _-_, _^_, _≤_, _<_}
+use mathlib.Core.Bool.{Bool, _&&_}
+use mathlib.Core.List.{List, []}
+use Prim.Native.Nat.{ℕ, suc}
 use native.Mathlib.Omega.{arith}
-use native.Mathlib.Nat.{add-zero}
 use native.Mathlib.Numerals.{add-one}
-use lib.Dec.{ltb, leb, eqb}
-use borrow.Author.Tests.{ltb-true, ltb-false, le-leb}
-use lib.ListN.{getD, length, take, drop, replicate}
-use Rattle.model.specs.declared.Reply.{Reply}
-use Rattle.model.specs.declared.Reply.the-variants.{Member, Finished}
-use Rattle.model.specs.Outcome.{Outcome, refused, accepted, _>>=_, _>>_, require}
-use Rattle.model.specs.Lists.{top, count-holds}
-use Rattle.model.specs.Expression.{Tree, size}
-use Rattle.model.specs.Sets.{among, member, members-from}
+use lib.Dec.{leb}
+use borrow.Author.Tests.{le-leb}
+use lib.ListN.{getD, length, replicate}
+use Rattle.model.specs.Outcome.{accepted}
+use Rattle.model.specs.Expression.{Tree}
+use Rattle.model.specs.Sets.{member, members-from}
 use Rattle.model.specs.Machine.{Call, next}
-use Rattle.model.specs.Run.{Result, run, Source}
-use Rattle.model.specs.Fields.{bits, take-field, only-fill}
+use Rattle.model.specs.Run.{run}
 use Rattle.model.specs.Forms.{read-packed}
-use Rattle.model.specs.Delivery.{largest-gap, width-from, width, read-gaps, read-later, read-body, read-list, read-lists, read-delivery}
+use Rattle.model.specs.Delivery.{read-delivery}
 use Rattle.model.specs.Program.{halves, Listing, listing}
-use Rattle.model.specs.Demands.{Least-width, Listed}
-use Rattle.model.proofs.Order.{split, Up}
+use Rattle.model.specs.Demands.{Listed}
+use Rattle.model.proofs.Order.{Up}
 use Rattle.model.proofs.Denoted.{up-ascending, members-up, members-are}
 use Rattle.model.proofs.Plain.{draws}
 use Rattle.model.proofs.Join.{join}
-use Rattle.model.proofs.Accepted.{accepted-same, bound, required, field-lt, packed-reads}
+use Rattle.model.proofs.Accepted.{accepted-same, bound, required, packed-reads}
 use Rattle.model.proofs.Deliveries.{delivery-up}
 use Rattle.model.proofs.DemandThree.{small-nexts}
 

@@ -2,13 +2,12 @@
 -- places, and so at most the summed lengths of the lists at the leaves.
 --
 -- One property of the readers, Counted, is kept by every reader's step and so by every operator's. Assumes nothing.
-use mathlib.Core.Path.{_≡_, refl, sym, ap, _∙_}
-use mathlib.Core.Bool.{Bool, true, false, cond}
+use mathlib.Core.Path.{_≡_, refl, ap, _∙_}
+use mathlib.Core.Bool.{Bool, true, false}
 use mathlib.Core.List.{List, [], _∷_, _++_}
 use Prim.Native.Nat.{ℕ, zero, suc, _+_, _≤_, _<_, max}
 use native.Mathlib.Omega.{arith}
 use native.Mathlib.Decide.{ℕ-discrete}
-use native.Mathlib.Nat.{add-assoc}
 use lib.Dec.{ltb, eqb}
 use lib.ListN.{getD, set, drop, length, length-set, length-append, length-drop, List·getD-append}
 use lib.Seq.{getD-set-same, getD-set-other, getD-append-add}
@@ -16,8 +15,8 @@ use Rattle.model.specs.declared.Reply.{Reply}
 use Rattle.model.specs.declared.Reply.the-variants.{No}
 use Rattle.model.specs.Expression.{Tree, leaf, difference, union, intersection, Members, one, more, size, sizes}
 use Rattle.model.specs.Machine.{Call, next, at-or-past, past, check, other}
-use Rattle.model.specs.Steps.{Readers, Found, end, at, Seek, Checked, says, Check, on, passed, answer, read, fuel, differ, unite, follow, intersect, seek, seek-union, seek-intersection, seek-rest, is-at, turned, on-yes, on-no, check-node, check-union, check-intersection}
-use Rattle.model.specs.Run.{State, drawn, told, step, steps, begin, run}
+use Rattle.model.specs.Steps.{Readers, Found, end, at, Seek, Checked, says, Check, passed, answer, read, fuel, differ, unite, follow, intersect, seek, seek-union, seek-intersection, seek-rest, is-at, turned, on-yes, on-no, check-node, check-union, check-intersection}
+use Rattle.model.specs.Run.{State, drawn, told, step, steps, begin}
 use Rattle.model.specs.Demands.{lengths, lengths-all, sum}
 use Rattle.model.proofs.Order.{none-moved}
 use Rattle.model.proofs.Seek.{on-case, test-case}

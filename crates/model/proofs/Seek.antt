@@ -14,7 +14,7 @@ use Rattle.model.specs.Expression.{Tree, leaf, difference, union, inters
 use Rattle.model.specs.Sets.{among}
 use Rattle.model.specs.Steps.{Readers, Found, end, at, Seek, on, passed, answer, read, fuel, differ, unite, follow, intersect, seek, seek-union, seek-intersection, seek-rest}
 use Rattle.model.proofs.Order.{or-right, and-right, split, min-case, Up, up-drop, up-none}
-use Rattle.model.proofs.Residual.{Set, Local, Kept, After, None, Least, Sought, Seeks, Higher, Passed, Passes, sought-passed, sought-wide, passed-wide, again, left-of, residual, residual-some, residual-all, residual-local, some-local, all-local}
+use Rattle.model.proofs.Residual.{Set, Local, After, None, Least, Sought, Seeks, Passed, Passes, sought-passed, sought-wide, passed-wide, again, left-of, residual, residual-some, residual-all, residual-local, some-local, all-local}
 
 pub fuel-is : fuel ≡ 4294967297
 unfolding fuel

@@ -2,11 +2,11 @@
 -- Each side computes, so each proof is `refl`. Assumes nothing.
 use mathlib.Core.Path.{_≡_, refl}
 use mathlib.Core.List.{List, [], _∷_, _++_, map}
-use Prim.Native.Nat.{ℕ, _+_, _-_}
+use Prim.Native.Nat.{ℕ, _-_}
 use lib.ListN.{replicate, length}
 use Rattle.model.specs.declared.Reply.{Reply}
 use Rattle.model.specs.declared.Reply.the-variants.{Member, Finished, Yes, No, Unknown}
-use Rattle.model.specs.Outcome.{Outcome, refused, accepted, Sent, sent, over}
+use Rattle.model.specs.Outcome.{accepted, Sent, sent, over}
 use Rattle.model.specs.Lists
 use Rattle.model.specs.Expression.{Tree, leaf, difference, union, intersection, Members, one, more, size, sizes, count}
 use Rattle.model.specs.Sets
@@ -20,7 +20,7 @@ use Rattle.model.specs.Forms.{row, packed, read-row, read-packed}
 use Rattle.model.specs.Delivery
 use Rattle.model.specs.Delivery.{delivery, read-delivery}
 use Rattle.model.specs.Calls.{unpack-expression, pack-expression, decode-delivery, encode-delivery, run-call, ends-from}
-use Rattle.model.specs.Program.{halves, Listing, listing}
+use Rattle.model.specs.Program.{halves, listing}
 
 -- opens the definitions: under `unfolding computes` each side of a table computes
 computes : Unit {0}

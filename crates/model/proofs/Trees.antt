@@ -3,24 +3,24 @@
 --
 -- Both forms write one node after another, so both are one argument over a function that writes a node and one that takes
 -- it off again; only these two are done for each form. Assumes nothing.
-use mathlib.Core.Path.{_≡_, refl, sym, ap, ap₂, _∙_}
+use mathlib.Core.Path.{_≡_, refl, sym, ap, _∙_}
 use mathlib.Core.Bool.{Bool, true, false, _&&_, cond}
 use mathlib.Core.List.{List, [], _∷_, _++_, map, append-assoc, append-nil}
-use Prim.Native.Nat.{ℕ, zero, suc, _+_, _-_, _^_, _≤_, _<_, max}
+use Prim.Native.Nat.{ℕ, zero, suc, _+_, _-_, _≤_, _<_}
 use native.Mathlib.Omega.{arith}
 use lib.Dec.{ltb, leb, eqb}
-use borrow.Author.Tests.{ltb-true, lt-ltb, leb-true, le-leb, lt-leb, eqb-true, eq-eqb, ne-eqb}
+use borrow.Author.Tests.{lt-ltb, leb-true, le-leb, lt-leb, eqb-true, ne-eqb}
 use lib.ListN.{length, replicate}
 use Rattle.model.specs.declared.Node.{Node}
 use Rattle.model.specs.declared.Node.the-variants.{Leaf, Difference, Union, Intersection}
-use Rattle.model.specs.Outcome.{Outcome, refused, accepted, _>>=_, _>>_, require}
+use Rattle.model.specs.Outcome.{Outcome, refused, accepted}
 use Rattle.model.specs.Expression.{Tree, leaf, difference, union, intersection, Members, one, more, size, sizes, depth, depths, count}
 use Rattle.model.specs.Fields.{Bytes, field, bits, bytes, take-field, only-fill}
 use Rattle.model.specs.Forms.{nodes, nodes-all, row-byte, row, packed-node, packed-nodes, packed, node-of, take-byte, take-rest, take-kind, take-node, read-members, operator, read-below, read-tree, read-row, read-packed}
 use Rattle.model.specs.Demands.{Named, Named-all, Expression}
 use Rattle.model.proofs.Order.{and-true}
 use Rattle.model.proofs.Accepted.{never-accepted, accepted-same, bound, required, field-lt, Few, few-byte, few-packed}
-use Rattle.model.proofs.Bits.{taken, was-field, Filled, filled, fill-only, bytes-are}
+use Rattle.model.proofs.Bits.{taken, was-field, filled, fill-only, bytes-are}
 
 -- a node that can be written: a list number below 32, 1 to 8 member nodes
 abbrev Writable : Node → Type 0
@@ -79,7 +79,7 @@ module _ {A : Type 0} (put : Node → List A) where
             ∙ rw (
               puts-append (nodes s) (nodes t) rest,
               reads-back s d (suc done) (puts (nodes t) ++ rest) (omega arith) (omega arith) (hn .0),
-              reads-back t d (suc done + size s) rest (omega arith) (omega arith) (hn .1)
+              reads-back t d (suc done + size s) rest (omega arith) (omega arith) (hn .1),
             ) (ap (λ (n : ℕ). accepted (difference s t, n, rest)) (omega arith))
         reads-back (union ts) zero done rest hd hs hn = absurd (omega arith)
         reads-back (union ts) (suc d) done rest hd hs hn = first-node (Union (count ts)) (count-pos ts, hn .1) (nodes-all ts) rest d done (omega arith) ∙ rw (all-back ts d (suc done) rest (omega arith) (omega arith) (hn .0)) (ap (λ (n : ℕ). accepted (union ts, n, rest)) (omega arith))
@@ -95,7 +95,7 @@ module _ {A : Type 0} (put : Node → List A) where
               c,
               puts-append (nodes t) (nodes-all ts) rest,
               reads-back t d done (puts (nodes-all ts) ++ rest) (omega arith) (omega arith) (hn .0),
-              all-back ts d (done + size t) rest (omega arith) (omega arith) (hn .1)
+              all-back ts d (done + size t) rest (omega arith) (omega arith) (hn .1),
             ) (ap (λ (n : ℕ). accepted (more t ts, n, rest)) (omega arith))
 
     -- what reads was written
@@ -184,7 +184,7 @@ byte-node (Intersection n) h =
       le-leb 129 (192 + n) (omega arith),
       lt-leb (192 + n) 136 (omega arith),
       le-leb 193 (192 + n) (omega arith),
-      le-leb (192 + n) 200 (omega arith)
+      le-leb (192 + n) 200 (omega arith),
     ) (ap (λ (k : ℕ). accepted (Intersection k)) (omega arith))
 
 byte-back : (n : Node) (rest : List ℕ) → Writable n → take-byte (put-byte n ++ rest) ≡ accepted (n, rest)

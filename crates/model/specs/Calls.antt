@@ -3,7 +3,7 @@ use mathlib.Core.List.{List, [], _∷_, _++_, map}
 use Prim.Native.Nat.{ℕ, _+_}
 use lib.Dec.{leb}
 use lib.ListN.{length}
-use Rattle.model.specs.Outcome.{Outcome, refused, accepted, _>>=_, _>>_, require, Sent, Success, sent}
+use Rattle.model.specs.Outcome.{accepted, _>>=_, _>>_, require, Sent, sent}
 use Rattle.model.specs.Lists.{count-holds, lists-of}
 use Rattle.model.specs.Expression.{size}
 use Rattle.model.specs.Sets.{all-numbers}

@@ -4,7 +4,7 @@ use mathlib.Core.List.{List, [], _∷_, _++_}
 use Prim.Native.Nat.{ℕ, zero, suc, _+_, _-_, _^_, max}
 use lib.Dec.{ltb, leb, eqb}
 use lib.ListN.{length}
-use Rattle.model.specs.Outcome.{Outcome, refused, accepted, _>>=_, _>>_, require}
+use Rattle.model.specs.Outcome.{Outcome, accepted, _>>=_, _>>_, require}
 use Rattle.model.specs.Lists.{top, count-holds}
 use Rattle.model.specs.Fields.{field, bits, bytes, take-field, only-fill}
 

@@ -5,7 +5,7 @@ use mathlib.Core.List.{List, [], _∷_, _++_}
 use Prim.Native.Nat.{ℕ, zero, suc, _+_, _*_, _/_, _%_, _^_, _<_}
 use lib.Dec.{ltb, leb, eqb}
 use lib.ListN.{length, getD, take, drop, replicate}
-use Rattle.model.specs.Outcome.{Outcome, refused, accepted, _>>_, require}
+use Rattle.model.specs.Outcome.{Outcome, accepted, _>>_, require}
 
 -- what the type of an 8-bit element says of each element of a row
 abbrev pub Bytes : List ℕ → Type 0

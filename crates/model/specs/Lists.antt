@@ -1,5 +1,5 @@
 -- "Lists and expressions", first paragraph: numbers, list sets, and lists lent as one row of numbers and the ends.
-use mathlib.Core.Bool.{Bool, true, false, _&&_}
+use mathlib.Core.Bool.{Bool, true, _&&_}
 use mathlib.Core.List.{List, [], _∷_}
 use Prim.Native.Nat.{ℕ, _-_, _<_}
 use lib.Dec.{ltb, leb}

@@ -1,12 +1,12 @@
 -- "Generator steps", a run: each call gets the floor, places and moves that the call before it left.
-use mathlib.Core.Bool.{Bool, true, false, _&&_, cond}
+use mathlib.Core.Bool.{true, false, _&&_, cond}
 use mathlib.Core.List.{List, [], _∷_}
 use Prim.Native.Nat.{ℕ, suc, max}
 use lib.Dec.{ltb, leb, eqb}
 use lib.ListN.{length, replicate}
 use Rattle.model.specs.declared.Reply.{Reply}
 use Rattle.model.specs.declared.Reply.the-variants.{Member, Finished, Yes, No, Unknown}
-use Rattle.model.specs.Outcome.{Outcome, refused, accepted, _>>=_, _>>_, require}
+use Rattle.model.specs.Outcome.{Outcome, accepted, _>>=_, _>>_, require}
 use Rattle.model.specs.Lists.{top, lists-of}
 use Rattle.model.specs.Expression.{Tree}
 use Rattle.model.specs.Machine.{Call, next, at-or-past, past, check, other, calls}
