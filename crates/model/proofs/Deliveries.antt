@@ -50,7 +50,7 @@ pub width-is : (m : ℕ) → m < top → Least-width m (width m)
 unfolding width
 width-is m h = width-from-is 31 1 m (omega arith) (λ k h₁ h₂. absurd (omega arith)) h
 
--- ---- a delivery's lists
+-- ---- the numbers of a list that reads ascend
 
 gaps-up : (w n last : ℕ) (bs : List Bool) (r : List ℕ × List Bool) → read-gaps w n last bs ≡ accepted r → Up (suc last) (r .0)
 unfolding read-gaps
@@ -81,121 +81,6 @@ body-up (suc n) bs r e =
     let b = bound (read-later n (a .got .0) (a .got .1)) _ r (a .rest) in
     let q : (a .got .0 ∷ b .got .0, b .got .1) ≡ r = cc (b .rest) in
     rw (← q) (omega arith, field-lt 32 bs (a .got) (a .first), later-up n (a .got .0) (a .got .1) (b .got) (b .first))
-
-list-up : (room : ℕ) (bs : List Bool) (r : List ℕ × List Bool) → read-list room bs ≡ accepted r → Up 0 (r .0)
-unfolding read-list
-list-up room bs r e =
-    let a = bound (take-field 16 bs) _ r e in
-    let b = required 6 (leb (a .got .0) room) _ r (a .rest) in
-    body-up (a .got .0) (a .got .1) r (b .1)
-
-lists-up : (n room : ℕ) (bs : List Bool) (r : List (List ℕ) × List Bool) → read-lists n room bs ≡ accepted r → (k : ℕ) → Up 0 (getD (r .0) k [])
-unfolding read-lists
-lists-up zero room bs r e k = let q : ([], bs) ≡ r = cc in rw (← q) tt
-lists-up (suc n) room bs r e k =
-    let a = bound (read-list room bs) _ r e in
-    let b = bound (read-lists n (room - length (a .got .0)) (a .got .1)) _ r (a .rest) in
-    let q : (a .got .0 ∷ b .got .0, b .got .1) ≡ r = cc (b .rest) in
-    rw (← q) (go (a .got .0) (b .got .0) k (list-up room bs (a .got) (a .first)) (lists-up n (room - length (a .got .0)) (a .got .1) (b .got) (b .first)))
-  where
-    go : (l : List ℕ) (ls : List (List ℕ)) (k : ℕ) → Up 0 l → ((k : ℕ) → Up 0 (getD ls k [])) → Up 0 (getD (l ∷ ls) k [])
-    go l ls zero u f = u
-    go l ls (suc k) u f = f k
-
--- every list of a delivery that reads is a list set of numbers
-pub delivery-up : (numbers-room ends-room : ℕ) (bs : List ℕ) (ls : List (List ℕ)) → read-delivery numbers-room ends-room bs ≡ accepted ls → (k : ℕ) → Up 0 (getD ls k [])
-unfolding read-delivery
-delivery-up numbers-room ends-room bs ls e =
-    let a = bound (take-field 6 (bits bs)) _ ls e in
-    let b = required 7 (count-holds (a .got .0)) _ ls (a .rest) in
-    let c = required 6 (leb (a .got .0) ends-room) _ ls (b .1) in
-    let d = bound (read-lists (a .got .0) numbers-room (a .got .1)) _ ls (c .1) in
-    let f = required 5 (only-fill (d .got .1)) _ ls (d .rest) in
-    let q : d .got .0 ≡ ls = cc (f .1) in
-    rw (← q) (lists-up (a .got .0) numbers-room (a .got .1) (d .got) (d .first))
-
--- ---- what is written reads back
-
--- each gap minus 1 fits the width
-abbrev Gaps-fit : ℕ → ℕ → List ℕ → Type 0
-Gaps-fit w last xs = largest-gap last xs < 2 ^ w
-
-gaps-back : (w last : ℕ) (xs : List ℕ) (rest : List Bool) → Up (suc last) xs → Gaps-fit w last xs → read-gaps w (length xs) last (gap-bits w last xs ++ rest) ≡ accepted (xs, rest)
-unfolding read-gaps gap-bits largest-gap
-gaps-back w last [] rest u f = refl
-gaps-back w last (x ∷ xs) rest u f =
-    let g : last + (x - last - 1) + 1 ≡ x = omega (arith, u .0) in
-    rw (append-assoc (field w (x - last - 1)) (gap-bits w x xs) rest, taken w (x - last - 1) (gap-bits w x xs ++ rest) (omega arith), g, lt-ltb x top (u .1), gaps-back w x xs rest (u .2) (omega arith))
-
-largest-small : (last : ℕ) (xs : List ℕ) → Up (suc last) xs → largest-gap last xs < top
-unfolding largest-gap
-largest-small last [] u = omega arith
-largest-small last (x ∷ xs) u = omega (arith, u .1, largest-small x xs (u .2))
-
--- the width of the largest gap holds it, and is a field of 5 bits plus 1
-width-small : (last : ℕ) (xs : List ℕ) → Up (suc last) xs → (largest-gap last xs < 2 ^ width (largest-gap last xs)) × (1 ≤ width (largest-gap last xs)) × (width (largest-gap last xs) ≤ 32)
-width-small last xs u =
-    let s = largest-small last xs u in
-    let w = width-is (largest-gap last xs) s in
-    (w .holds, w .one, w .least 32 (omega arith) s)
-
-later-back : (x : ℕ) (xs : List ℕ) (rest : List Bool) → Up (suc x) xs → read-later (length xs) x (later-bits x xs ++ rest) ≡ accepted (xs, rest)
-unfolding read-later later-bits
-later-back x [] rest u = refl
-later-back x (y ∷ ys) rest u =
-    let w : ℕ = width (largest-gap x (y ∷ ys)) in
-    let s = width-small x (y ∷ ys) u in
-    let back : w - 1 + 1 ≡ w = omega (arith, s .1) in
-    rw (
-      append-assoc (field 5 (w - 1)) (gap-bits w x (y ∷ ys)) rest,
-      taken 5 (w - 1) (gap-bits w x (y ∷ ys) ++ rest) (omega (arith, s .1, s .2)),
-      back,
-      gaps-back w x (y ∷ ys) rest u (s .0),
-      eq-eqb w w refl,
-    )
-
-body-back : (l : List ℕ) (rest : List Bool) → Up 0 l → read-body (length l) (body-bits l ++ rest) ≡ accepted (l, rest)
-unfolding read-body body-bits
-body-back [] rest u = refl
-body-back (x ∷ xs) rest u = rw (append-assoc (field 32 x) (later-bits x xs) rest, taken 32 x (later-bits x xs ++ rest) (u .1), later-back x xs rest (u .2))
-
-list-back : (room : ℕ) (l : List ℕ) (rest : List Bool) → Up 0 l → length l ≤ room → length l ≤ 65535 → read-list room (list-bits l ++ rest) ≡ accepted (l, rest)
-unfolding read-list list-bits
-list-back room l rest u h₁ h₂ =
-    rw (append-assoc (field 16 (length l)) (body-bits l) rest, taken 16 (length l) (body-bits l ++ rest) (omega arith), le-leb (length l) room h₁, body-back l rest u)
-
--- lists that a delivery can hold: list sets of at most 65,535 numbers
-abbrev pub Storable : List (List ℕ) → Type 0
-Storable [] = Unit {0}
-Storable (l ∷ ls) = (Up 0 l × (length l ≤ 65535)) × Storable ls
-
-lists-back : (room : ℕ) (ls : List (List ℕ)) (rest : List Bool) → Storable ls → length (all-numbers ls) ≤ room → read-lists (length ls) room (lists-bits ls ++ rest) ≡ accepted (ls, rest)
-unfolding read-lists lists-bits all-numbers
-lists-back room [] rest s h = refl
-lists-back room (l ∷ ls) rest s h =
-    let n = length-append l (all-numbers ls) in
-    rw (
-      append-assoc (list-bits l) (lists-bits ls) rest,
-      list-back room l (lists-bits ls ++ rest) (s .0 .0) (omega (arith, n)) (s .0 .1),
-      lists-back (room - length l) ls rest (s .1) (omega (arith, n)),
-    )
-
--- what is written from lists reads back as those lists
-pub delivery-written : (numbers-room ends-room : ℕ) (ls : List (List ℕ)) → count-holds (length ls) ≡ true → Storable ls → length (all-numbers ls) ≤ numbers-room → length ls ≤ ends-room
-    → read-delivery numbers-room ends-room (delivery ls) ≡ accepted ls
-unfolding read-delivery delivery
-delivery-written numbers-room ends-room ls c s h₁ h₂ =
-    let f = filled (field 6 (length ls) ++ lists-bits ls) in
-    let zs : List Bool = replicate (f .zeros-behind) false in
-    rw (
-      f .are,
-      append-assoc (field 6 (length ls)) (lists-bits ls) zs,
-      taken 6 (length ls) (lists-bits ls ++ zs) (omega (arith, leb-true (length ls) 32 (and-true (leb 1 (length ls)) (leb (length ls) 32) (unfold count-holds in c) .1))),
-      c,
-      le-leb (length ls) ends-room h₂,
-      lists-back numbers-room ls zs s h₁,
-      fill-only (f .zeros-behind) (f .few),
-    )
 
 -- ---- what reads was written
 
@@ -285,3 +170,132 @@ delivery-same numbers-room ends-room bs ls h e =
     let q : d .got .0 ≡ ls = accepted-same (f .1) in
     rw (← q) (bytes-are bs h (field 6 (length (d .got .0)) ++ lists-bits (d .got .0)) (d .got .1)
     (was-field 6 (bits bs) (a .got) (a .first) ∙ ap₂ (λ (k : ℕ) (l : List Bool). field 6 k ++ l) (sym (y .1)) (y .0) ∙ sym (append-assoc (field 6 (length (d .got .0))) (lists-bits (d .got .0)) (d .got .1))) (f .0))
+
+-- ---- what a delivery that reads holds
+
+-- lists that a delivery can hold: list sets of at most 65,535 numbers
+abbrev pub Storable : List (List ℕ) → Type 0
+Storable [] = Unit {0}
+Storable (l ∷ ls) = (Up 0 l × (length l ≤ 65535)) × Storable ls
+
+pub storable-up : (ls : List (List ℕ)) → Storable ls → (k : ℕ) → Up 0 (getD ls k [])
+storable-up [] s k = tt
+storable-up (l ∷ ls) s zero = s .0 .0
+storable-up (l ∷ ls) s (suc k) = storable-up ls (s .1) k
+
+list-holds : (room : ℕ) (bs : List Bool) (r : List ℕ × List Bool) → read-list room bs ≡ accepted r → (Up 0 (r .0) × (length (r .0) ≤ 65535)) × (length (r .0) ≤ room)
+unfolding read-list
+list-holds room bs r e =
+    let a = bound (take-field 16 bs) _ r e in
+    let b = required 6 (leb (a .got .0) room) _ r (a .rest) in
+    let n = body-was (a .got .0) (a .got .1) r (b .1) .1 in
+    ((body-up (a .got .0) (a .got .1) r (b .1), omega (arith, n, field-lt 16 bs (a .got) (a .first))), omega (arith, n, leb-true (a .got .0) room (b .0)))
+
+lists-hold : (n room : ℕ) (bs : List Bool) (r : List (List ℕ) × List Bool) → read-lists n room bs ≡ accepted r → Storable (r .0) × (length (all-numbers (r .0)) ≤ room)
+unfolding read-lists all-numbers
+lists-hold zero room bs r e = let q : ([], bs) ≡ r = accepted-same e in rw (← q) (tt, omega arith)
+lists-hold (suc n) room bs r e =
+    let a = bound (read-list room bs) _ r e in
+    let b = bound (read-lists n (room - length (a .got .0)) (a .got .1)) _ r (a .rest) in
+    let x = list-holds room bs (a .got) (a .first) in
+    let y = lists-hold n (room - length (a .got .0)) (a .got .1) (b .got) (b .first) in
+    let q : (a .got .0 ∷ b .got .0, b .got .1) ≡ r = accepted-same (b .rest) in
+    rw (← q) ((x .0, y .0), omega (arith, length-append (a .got .0) (all-numbers (b .got .0)), x .1, y .1))
+
+pub record Delivered (numbers-room ends-room : ℕ) (ls : List (List ℕ)) : Type 0 where
+  pub count : count-holds (length ls) ≡ true
+  pub storable : Storable ls
+  pub numbers : length (all-numbers ls) ≤ numbers-room
+  pub ends : length ls ≤ ends-room
+
+-- 1 to 32 list sets of at most 65,535 numbers, with room for their numbers and ends
+pub delivery-holds : (numbers-room ends-room : ℕ) (bs : List ℕ) (ls : List (List ℕ)) → read-delivery numbers-room ends-room bs ≡ accepted ls → Delivered numbers-room ends-room ls
+unfolding read-delivery
+delivery-holds numbers-room ends-room bs ls e =
+    let a = bound (take-field 6 (bits bs)) _ ls e in
+    let b = required 7 (count-holds (a .got .0)) _ ls (a .rest) in
+    let c = required 6 (leb (a .got .0) ends-room) _ ls (b .1) in
+    let d = bound (read-lists (a .got .0) numbers-room (a .got .1)) _ ls (c .1) in
+    let f = required 5 (only-fill (d .got .1)) _ ls (d .rest) in
+    let x = lists-hold (a .got .0) numbers-room (a .got .1) (d .got) (d .first) in
+    let n = lists-was (a .got .0) numbers-room (a .got .1) (d .got) (d .first) .1 in
+    let q : d .got .0 ≡ ls = accepted-same (f .1) in
+    rw (← q) (record { count = ap count-holds n ∙ b .0; storable = x .0; numbers = x .1; ends = omega (arith, n, leb-true (a .got .0) ends-room (c .0)) })
+
+-- ---- what is written reads back
+
+-- each gap minus 1 fits the width
+abbrev Gaps-fit : ℕ → ℕ → List ℕ → Type 0
+Gaps-fit w last xs = largest-gap last xs < 2 ^ w
+
+gaps-back : (w last : ℕ) (xs : List ℕ) (rest : List Bool) → Up (suc last) xs → Gaps-fit w last xs → read-gaps w (length xs) last (gap-bits w last xs ++ rest) ≡ accepted (xs, rest)
+unfolding read-gaps gap-bits largest-gap
+gaps-back w last [] rest u f = refl
+gaps-back w last (x ∷ xs) rest u f =
+    let g : last + (x - last - 1) + 1 ≡ x = omega (arith, u .0) in
+    rw (append-assoc (field w (x - last - 1)) (gap-bits w x xs) rest, taken w (x - last - 1) (gap-bits w x xs ++ rest) (omega arith), g, lt-ltb x top (u .1), gaps-back w x xs rest (u .2) (omega arith))
+
+largest-small : (last : ℕ) (xs : List ℕ) → Up (suc last) xs → largest-gap last xs < top
+unfolding largest-gap
+largest-small last [] u = omega arith
+largest-small last (x ∷ xs) u = omega (arith, u .1, largest-small x xs (u .2))
+
+-- the width of the largest gap holds it, and is a field of 5 bits plus 1
+width-small : (last : ℕ) (xs : List ℕ) → Up (suc last) xs → (largest-gap last xs < 2 ^ width (largest-gap last xs)) × (1 ≤ width (largest-gap last xs)) × (width (largest-gap last xs) ≤ 32)
+width-small last xs u =
+    let s = largest-small last xs u in
+    let w = width-is (largest-gap last xs) s in
+    (w .holds, w .one, w .least 32 (omega arith) s)
+
+later-back : (x : ℕ) (xs : List ℕ) (rest : List Bool) → Up (suc x) xs → read-later (length xs) x (later-bits x xs ++ rest) ≡ accepted (xs, rest)
+unfolding read-later later-bits
+later-back x [] rest u = refl
+later-back x (y ∷ ys) rest u =
+    let w : ℕ = width (largest-gap x (y ∷ ys)) in
+    let s = width-small x (y ∷ ys) u in
+    let back : w - 1 + 1 ≡ w = omega (arith, s .1) in
+    rw (
+      append-assoc (field 5 (w - 1)) (gap-bits w x (y ∷ ys)) rest,
+      taken 5 (w - 1) (gap-bits w x (y ∷ ys) ++ rest) (omega (arith, s .1, s .2)),
+      back,
+      gaps-back w x (y ∷ ys) rest u (s .0),
+      eq-eqb w w refl,
+    )
+
+body-back : (l : List ℕ) (rest : List Bool) → Up 0 l → read-body (length l) (body-bits l ++ rest) ≡ accepted (l, rest)
+unfolding read-body body-bits
+body-back [] rest u = refl
+body-back (x ∷ xs) rest u = rw (append-assoc (field 32 x) (later-bits x xs) rest, taken 32 x (later-bits x xs ++ rest) (u .1), later-back x xs rest (u .2))
+
+list-back : (room : ℕ) (l : List ℕ) (rest : List Bool) → Up 0 l → length l ≤ room → length l ≤ 65535 → read-list room (list-bits l ++ rest) ≡ accepted (l, rest)
+unfolding read-list list-bits
+list-back room l rest u h₁ h₂ =
+    rw (append-assoc (field 16 (length l)) (body-bits l) rest, taken 16 (length l) (body-bits l ++ rest) (omega arith), le-leb (length l) room h₁, body-back l rest u)
+
+lists-back : (room : ℕ) (ls : List (List ℕ)) (rest : List Bool) → Storable ls → length (all-numbers ls) ≤ room → read-lists (length ls) room (lists-bits ls ++ rest) ≡ accepted (ls, rest)
+unfolding read-lists lists-bits all-numbers
+lists-back room [] rest s h = refl
+lists-back room (l ∷ ls) rest s h =
+    let n = length-append l (all-numbers ls) in
+    rw (
+      append-assoc (list-bits l) (lists-bits ls) rest,
+      list-back room l (lists-bits ls ++ rest) (s .0 .0) (omega (arith, n)) (s .0 .1),
+      lists-back (room - length l) ls rest (s .1) (omega (arith, n)),
+    )
+
+-- what is written from lists reads back as those lists
+pub delivery-written : (numbers-room ends-room : ℕ) (ls : List (List ℕ)) → count-holds (length ls) ≡ true → Storable ls → length (all-numbers ls) ≤ numbers-room → length ls ≤ ends-room
+    → read-delivery numbers-room ends-room (delivery ls) ≡ accepted ls
+unfolding read-delivery delivery
+delivery-written numbers-room ends-room ls c s h₁ h₂ =
+    let f = filled (field 6 (length ls) ++ lists-bits ls) in
+    let zs : List Bool = replicate (f .zeros-behind) false in
+    rw (
+      f .are,
+      append-assoc (field 6 (length ls)) (lists-bits ls) zs,
+      taken 6 (length ls) (lists-bits ls ++ zs) (omega (arith, leb-true (length ls) 32 (and-true (leb 1 (length ls)) (leb (length ls) 32) (unfold count-holds in c) .1))),
+      c,
+      le-leb (length ls) ends-room h₂,
+      lists-back numbers-room ls zs s h₁,
+      fill-only (f .zeros-behind) (f .few),
+    )

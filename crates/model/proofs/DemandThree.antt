@@ -1,9 +1,9 @@
--- Demand 3, proved: the join, the plain machine's two laws and the bounds, gathered for one accepted run.
+-- Demand 3, proved: the join, the plain machine's two laws and the bounds, gathered for one list of calls.
 -- Assumes nothing but that the elements of the rows of numbers are numbers, which their type says.
 use mathlib.Core.Path.{_≡_, refl, sym, ap, _∙_}
 use mathlib.Core.Bool.{_&&_}
 use mathlib.Core.List.{List, [], _∷_, _++_}
-use Prim.Native.Nat.{ℕ, zero, suc, _+_, _≤_, _<_}
+use Prim.Native.Nat.{ℕ, zero, suc, _≤_, _<_}
 use native.Mathlib.Omega.{arith}
 use lib.Dec.{leb, eqb}
 use borrow.Author.Tests.{leb-true, eqb-true, le-leb, eq-eqb}
@@ -11,7 +11,7 @@ use lib.ListN.{getD, length, take, drop, replicate, length-take, length-drop, le
 use Rattle.model.specs.declared.Reply.{Reply}
 use Rattle.model.specs.Outcome.{accepted}
 use Rattle.model.specs.Lists.{top, Numbers, lists-of}
-use Rattle.model.specs.Expression.{Tree, size}
+use Rattle.model.specs.Expression.{size}
 use Rattle.model.specs.Sets.{members-from}
 use Rattle.model.specs.Machine.{Call, next, call, calls, machine}
 use Rattle.model.specs.Run.{Result, run, begin, steps, Source, source-of, run-of}
@@ -59,7 +59,7 @@ calls-split (suc k) (c ∷ cs) [] = sym (none (drop k cs))
     none (c ∷ cs) = refl
 calls-split (suc k) (c ∷ cs) (d ∷ ds) = ap (λ (r : List Call). call c d ∷ r) (calls-split k cs ds)
 
-next-calls : (n : ℕ) (ds : List ℕ) → length ds ≡ n → calls (replicate n 0) ds ≡ replicate n next
+pub next-calls : (n : ℕ) (ds : List ℕ) → length ds ≡ n → calls (replicate n 0) ds ≡ replicate n next
 unfolding calls call
 next-calls zero ds h = refl
 next-calls (suc n) [] h = absurd (omega arith)
@@ -67,15 +67,16 @@ next-calls (suc n) (d ∷ ds) h = ap (λ (r : List Call). next ∷ r) (next-call
 
 -- ---- a run and its tests
 
-record Accepted-run (numbers ends expression : List ℕ) (bookmark : ℕ) (codes ds : List ℕ) (room : ℕ) (r : Result) : Type 0 where
-  source : Source
-  is-source : source-of numbers ends expression ≡ accepted source
-  low : bookmark ≤ top
-  paired : length codes ≡ length ds
-  fits : length codes ≤ room
-  are : run (source .lists) (source .tree) bookmark (calls codes ds) ≡ r
+-- what an accepted run has passed: just the hypotheses of demand 3
+pub record Accepted-run (numbers ends expression : List ℕ) (bookmark : ℕ) (codes ds : List ℕ) (room : ℕ) (r : Result) : Type 0 where
+  pub source : Source
+  pub is-source : source-of numbers ends expression ≡ accepted source
+  pub low : bookmark ≤ top
+  pub paired : length codes ≡ length ds
+  pub fits : length codes ≤ room
+  pub are : run (source .lists) (source .tree) bookmark (calls codes ds) ≡ r
 
-run-accepted : (numbers ends expression : List ℕ) (bookmark : ℕ) (codes ds : List ℕ) (room : ℕ) (r : Result)
+pub run-accepted : (numbers ends expression : List ℕ) (bookmark : ℕ) (codes ds : List ℕ) (room : ℕ) (r : Result)
     → run-of numbers ends expression bookmark codes ds room ≡ accepted r → Accepted-run numbers ends expression bookmark codes ds room r
 unfolding run-of
 run-accepted numbers ends expression bookmark codes ds room r e =
@@ -92,7 +93,7 @@ run-accepted numbers ends expression bookmark codes ds room r e =
       are = cc (c .1);
     }
 
-source-accepted : (numbers ends expression : List ℕ) (s : Source) → source-of numbers ends expression ≡ accepted s
+pub source-accepted : (numbers ends expression : List ℕ) (s : Source) → source-of numbers ends expression ≡ accepted s
     → (lists-of numbers ends ≡ accepted (s .lists)) × (read-packed (length ends) expression ≡ accepted (s .tree))
 unfolding source-of
 source-accepted numbers ends expression s e =
@@ -103,18 +104,19 @@ source-accepted numbers ends expression s e =
 
 -- ---- over one source
 module _ (numbers ends expression : List ℕ) (n : Numbers numbers) (s : Source) (is : source-of numbers ends expression ≡ accepted s) where
-  up : (k : ℕ) → Up 0 (getD (s .lists) k [])
+  pub up : (k : ℕ) → Up 0 (getD (s .lists) k [])
   up = accepted-up numbers ends (s .lists) n (source-accepted numbers ends expression s is .0)
 
-  small : size (s .tree) ≤ 48
+  pub small : size (s .tree) ≤ 48
   small = packed-reads (length ends) expression (s .tree) (source-accepted numbers ends expression s is .1) .nodes
 
+  -- nothing but 12 and 13 can refuse a run over it
   accepts : (bookmark : ℕ) (codes ds : List ℕ) (room : ℕ) → bookmark ≤ top → length codes ≡ length ds → length codes ≤ room
       → run-of numbers ends expression bookmark codes ds room ≡ accepted (run (s .lists) (s .tree) bookmark (calls codes ds))
   unfolding run-of
   accepts bookmark codes ds room h₁ h₂ h₃ = rw (is, le-leb bookmark top h₁, eq-eqb (length codes) (length ds) h₂, le-leb (length codes) room h₃)
 
-  ran : (bookmark : ℕ) (codes ds : List ℕ) (room : ℕ) → bookmark ≤ top → length codes ≡ length ds → length codes ≤ room
+  pub ran : (bookmark : ℕ) (codes ds : List ℕ) (room : ℕ) → bookmark ≤ top → length codes ≡ length ds → length codes ≤ room
       → Ran numbers ends expression s bookmark codes ds room (run (s .lists) (s .tree) bookmark (calls codes ds))
   unfolding run
   ran bookmark codes ds room h₁ h₂ h₃ =
@@ -128,77 +130,66 @@ module _ (numbers ends expression : List ℕ) (n : Numbers numbers) (s : Source)
         inside = c .within;
       }
 
-  drawn : (bookmark : ℕ) → bookmark ≤ top → Drawn numbers ends expression s bookmark
+  -- the next calls from a bookmark
+  unfoldable pub drawn : (bookmark : ℕ) → bookmark ≤ top → Drawn numbers ends expression s bookmark
   drawn bookmark h = record {
     members = ms;
     ascend = up-ascending bookmark ms (members-up (s .lists) up (s .tree) bookmark);
     every = members-are (s .lists) up (s .tree) bookmark;
-    result = λ k. run (s .lists) (s .tree) bookmark (replicate (length ms + k) next);
-    ran = λ k ds room h₁ h₂. rw (next-calls (length ms + k) ds h₁) at (ran bookmark (replicate (length ms + k) 0) ds room h (length-replicate (length ms + k) 0 ∙ sym h₁) (omega (arith, length-replicate (length ms + k) zero)));
-    replies = λ k. ap (λ p. p .0) (join (s .lists) up (s .tree) bookmark h small (replicate (length ms + k) next) (small-nexts (length ms + k))) ∙ draws (s .lists) up (s .tree) bookmark h k;
+    result = λ k. run (s .lists) (s .tree) bookmark (replicate k next);
+    ran = λ k ds e room f. rw (next-calls k ds e) at (ran bookmark (replicate k 0) ds room h (length-replicate k 0 ∙ sym e) (omega (arith, length-replicate k zero)));
+    replies = λ k. ap (λ p. p .0) (join (s .lists) up (s .tree) bookmark h small (replicate k next) (small-nexts k)) ∙ draws (s .lists) up (s .tree) bookmark h k;
   }
     where
       ms : List ℕ
       ms = members-from (s .lists) (s .tree) bookmark
 
-  broken : (bookmark : ℕ) (codes ds : List ℕ) (room : ℕ) → Numbers ds → bookmark ≤ top → length codes ≡ length ds → length codes ≤ room → (k : ℕ)
-      → Broken numbers ends expression s bookmark codes ds room (run (s .lists) (s .tree) bookmark (calls codes ds)) k
-  broken bookmark codes ds room nd h₁ h₂ h₃ k =
-      record {
-        first = one;
-        second = two;
-        first-ran = ran bookmark (take k codes) (take k ds) room h₁ (omega (arith, length-take k codes, length-take k ds)) (omega (arith, length-take k codes));
-        second-ran = ran (one .bookmark) (drop k codes) (drop k ds) room low (omega (arith, length-drop k codes, length-drop k ds)) (omega (arith, length-drop k codes));
-        replies = ap (λ p. p .0) whole;
-        last = ap (λ p. p .1) whole;
-      }
-    where
-      ls : List (List ℕ)
-      ls = s .lists
+  module _ (bookmark : ℕ) (low : bookmark ≤ top) (codes ds : List ℕ) (paired : length codes ≡ length ds) (nd : Numbers ds) where
+    all-of-them : All-small (calls codes ds)
+    all-of-them = small-calls codes ds nd
 
-      t : Tree
-      t = s .tree
+    broken : (k : ℕ) → Broken numbers ends expression s bookmark codes ds (run (s .lists) (s .tree) bookmark (calls codes ds)) k
+    broken k =
+        record {
+          first = one;
+          first-ran = λ room h. ran bookmark (take k codes) (take k ds) room low (omega (arith, length-take k codes, length-take k ds)) h;
+          second = two;
+          second-ran = λ room h. ran (one .bookmark) (drop k codes) (drop k ds) room one-low (omega (arith, length-drop k codes, length-drop k ds)) h;
+          replies = ap (λ p. p .0) whole;
+          last = ap (λ p. p .1) whole;
+        }
+      where
+        cs₁ : List Call
+        cs₁ = calls (take k codes) (take k ds)
 
-      cs₁ : List Call
-      cs₁ = calls (take k codes) (take k ds)
+        cs₂ : List Call
+        cs₂ = calls (drop k codes) (drop k ds)
 
-      cs₂ : List Call
-      cs₂ = calls (drop k codes) (drop k ds)
+        parts : All-small cs₁ × All-small cs₂
+        parts = small-append cs₁ cs₂ (rw (← calls-split k codes ds) all-of-them)
 
-      both : All-small (calls codes ds)
-      both = small-calls codes ds nd
+        one : Result
+        one = run (s .lists) (s .tree) bookmark cs₁
 
-      parts : All-small cs₁ × All-small cs₂
-      parts = small-append cs₁ cs₂ (rw (← calls-split k codes ds) both)
+        one-low : one .bookmark ≤ top
+        one-low = bookmark-low (s .lists) up (s .tree) bookmark low small cs₁ (parts .0)
 
-      one : Result
-      one = run ls t bookmark cs₁
+        two : Result
+        two = run (s .lists) (s .tree) (one .bookmark) cs₂
 
-      low : one .bookmark ≤ top
-      low = bookmark-low ls up t bookmark h₁ small cs₁ (parts .0)
+        whole : _≡_ {A = List Reply × ℕ} (run (s .lists) (s .tree) bookmark (calls codes ds) .replies, run (s .lists) (s .tree) bookmark (calls codes ds) .bookmark) (one .replies ++ two .replies, two .bookmark)
+        whole =
+            join (s .lists) up (s .tree) bookmark low small (calls codes ds) all-of-them
+            ∙ ap (machine (s .lists) (s .tree) bookmark) (calls-split k codes ds)
+            ∙ machine-append (s .lists) (s .tree) cs₁ cs₂ bookmark
+            ∙ rw (← join (s .lists) up (s .tree) bookmark low small cs₁ (parts .0), ← join (s .lists) up (s .tree) (one .bookmark) one-low small cs₂ (parts .1))
 
-      two : Result
-      two = run ls t (one .bookmark) cs₂
-
-      whole : _≡_ {A = List Reply × ℕ} (run ls t bookmark (calls codes ds) .replies, run ls t bookmark (calls codes ds) .bookmark) (one .replies ++ two .replies, two .bookmark)
-      whole =
-          join ls up t bookmark h₁ small (calls codes ds) both
-          ∙ ap (machine ls t bookmark) (calls-split k codes ds)
-          ∙ machine-append ls t cs₁ cs₂ bookmark
-          ∙ rw (← join ls up t bookmark h₁ small cs₁ (parts .0), ← join ls up t (one .bookmark) low small cs₂ (parts .1))
-
--- demand 3, for every whole list of calls of a run that its tests accept
-pub demand-three : (numbers ends expression : List ℕ) (bookmark : ℕ) (codes ds : List ℕ) (room : ℕ) (r : Result) → Numbers numbers → Numbers ds
-    → run-of numbers ends expression bookmark codes ds room ≡ accepted r → Demand-three numbers ends expression bookmark codes ds room r
-demand-three numbers ends expression bookmark codes ds room r n nd e =
-    let a = run-accepted numbers ends expression bookmark codes ds room r e in
-    let s = a .source in
-    rw (← a .are) (record {
-      source = s;
-      is-source = a .is-source;
-      ran = ran numbers ends expression n s (a .is-source) bookmark codes ds room (a .low) (a .paired) (a .fits);
-      plain = join (s .lists) (up numbers ends expression n s (a .is-source)) (s .tree) bookmark (a .low) (small numbers ends expression n s (a .is-source)) (calls codes ds) (small-calls codes ds nd);
-      drawn = drawn numbers ends expression n s (a .is-source) (run (s .lists) (s .tree) bookmark (calls codes ds) .bookmark)
-          (bookmark-low (s .lists) (up numbers ends expression n s (a .is-source)) (s .tree) bookmark (a .low) (small numbers ends expression n s (a .is-source)) (calls codes ds) (small-calls codes ds nd));
-      broken = broken numbers ends expression n s (a .is-source) bookmark codes ds room nd (a .low) (a .paired) (a .fits);
-    })
+    -- demand 3: for every list of calls, from any accepted bookmark, over any accepted lists and expression
+    pub demand-three : Demand-three numbers ends expression s bookmark codes ds
+    demand-three = record {
+      result = run (s .lists) (s .tree) bookmark (calls codes ds);
+      ran = λ room h. ran bookmark codes ds room low paired h;
+      plain = join (s .lists) up (s .tree) bookmark low small (calls codes ds) all-of-them;
+      drawn = drawn (run (s .lists) (s .tree) bookmark (calls codes ds) .bookmark) (bookmark-low (s .lists) up (s .tree) bookmark low small (calls codes ds) all-of-them);
+      broken = broken;
+    }

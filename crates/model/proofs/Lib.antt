@@ -12,6 +12,7 @@ pub mod Accepted
 pub mod DemandThree
 pub mod Fuel
 pub mod Deliveries
+pub mod Laid
 pub mod Listing
 pub mod Bits
 pub mod Trees

@@ -2,11 +2,11 @@
 use mathlib.Core.Path.{_≡_, refl, ap, _∙_}
 use mathlib.Core.Bool.{true, false}
 use mathlib.Core.List.{List, [], _∷_, _++_, map}
-use Prim.Native.Nat.{ℕ, zero, suc, _+_, _≤_, _<_}
+use Prim.Native.Nat.{ℕ, zero, suc, _-_, _≤_, _<_}
 use native.Mathlib.Omega.{arith}
-use native.Mathlib.Nat.{zero-add, suc-add}
+use native.Mathlib.Nat.{zero-sub, sub-zero, suc-sub-suc}
 use borrow.Author.Tests.{ne-eqb, eq-eqb}
-use lib.ListN.{getD, length, replicate}
+use lib.ListN.{getD, length, take, replicate}
 use Rattle.model.specs.declared.Reply.{Reply}
 use Rattle.model.specs.declared.Reply.the-variants.{Member, Finished}
 use Rattle.model.specs.Lists.{top}
@@ -38,14 +38,15 @@ module _ (ls : List (List ℕ)) (t : Tree) where
   spent zero b bt h = refl
   spent (suc n) b bt h = rw (draw-none b h) (ap (λ (rs : List Reply). Finished ∷ rs) (spent n top (omega arith) (λ x q. h x (omega arith))))
 
-  -- ms are the members at or above the bookmark, ascending: so many nexts reply these, and each further one finished
-  drawn-by : (ms : List ℕ) (n b : ℕ) → b ≤ top → Up b ms → ((x : ℕ) → b ≤ x → member ls t x ≡ among x ms)
-      → machine ls t b (replicate (length ms + n) next) .0 ≡ map Member ms ++ replicate n Finished
+  -- ms are the members at or above the bookmark, ascending: n nexts reply the first n of these, and finished behind them
+  drawn-by : (n : ℕ) (ms : List ℕ) (b : ℕ) → b ≤ top → Up b ms → ((x : ℕ) → b ≤ x → member ls t x ≡ among x ms)
+      → machine ls t b (replicate n next) .0 ≡ map Member (take n ms) ++ replicate (n - length ms) Finished
   unfolding machine reply among
-  drawn-by [] n b bt u h = rw (zero-add n) (spent n b bt (λ x q. h x q))
-  drawn-by (m ∷ ms) n b bt u h =
-      rw (suc-add (length ms) n, draw-some b m (record { from = u .0; is = is; gap = gap }))
-      (ap (λ (rs : List Reply). Member m ∷ rs) (drawn-by ms n (suc m) (omega (arith, u .1)) (u .2) later))
+  drawn-by zero ms b bt u h = rw (zero-sub (length ms))
+  drawn-by (suc n) [] b bt u h = rw (sub-zero (suc n)) (spent (suc n) b bt (λ x q. h x q))
+  drawn-by (suc n) (m ∷ ms) b bt u h =
+      rw (draw-some b m (record { from = u .0; is = is; gap = gap }), suc-sub-suc n (length ms))
+      (ap (λ (rs : List Reply). Member m ∷ rs) (drawn-by n ms (suc m) (omega (arith, u .1)) (u .2) later))
     where
       is : member ls t m ≡ true
       is = cc (h m (u .0), eq-eqb m m refl)
@@ -58,5 +59,5 @@ module _ (ls : List (List ℕ)) (t : Tree) where
 
 -- with m members at or above a bookmark the first m nexts reply these, ascending, and each further one finished
 pub draws : (ls : List (List ℕ)) → ((k : ℕ) → Up 0 (getD ls k [])) → (t : Tree) (b : ℕ) → b ≤ top → (n : ℕ)
-    → machine ls t b (replicate (length (members-from ls t b) + n) next) .0 ≡ map Member (members-from ls t b) ++ replicate n Finished
-draws ls up t b bt n = drawn-by ls t (members-from ls t b) n b bt (members-up ls up t b) (members-above ls up t b)
+    → machine ls t b (replicate n next) .0 ≡ map Member (take n (members-from ls t b)) ++ replicate (n - length (members-from ls t b)) Finished
+draws ls up t b bt n = drawn-by ls t n (members-from ls t b) b bt (members-up ls up t b) (members-above ls up t b)

@@ -2,21 +2,22 @@
 use mathlib.Core.Path.{_≡_}
 use mathlib.Core.Bool.{true, _&&_}
 use mathlib.Core.List.{List, [], _∷_, _++_, map}
-use Prim.Native.Nat.{ℕ, suc, _+_, _^_, _≤_, _<_}
+use Prim.Native.Nat.{ℕ, suc, _+_, _-_, _^_, _≤_, _<_}
 use lib.Dec.{leb}
 use lib.ListN.{length, getD, take, drop, replicate}
 use Rattle.model.specs.declared.Reply.the-variants.{Member, Finished}
 use Rattle.model.specs.Outcome.{accepted}
 use Rattle.model.specs.Lists.{ascending}
 use Rattle.model.specs.Expression.{Tree, leaf, difference, union, intersection, Members, one, more, size, depth, count}
-use Rattle.model.specs.Sets.{among, member}
-use Rattle.model.specs.Machine.{next, calls, machine}
-use Rattle.model.specs.Run.{Result, run, Source, source-of, run-of}
+use Rattle.model.specs.Sets.{among, member, all-numbers}
+use Rattle.model.specs.Machine.{calls, machine}
+use Rattle.model.specs.Run.{Result, run, Source, run-of}
 use Rattle.model.specs.Forms.{read-packed}
 use Rattle.model.specs.Delivery.{read-delivery}
+use Rattle.model.specs.Calls.{ends-from}
 use Rattle.model.specs.Program.{halves, Listing}
 
--- the list numbers at the leaves: "One list may stand at several leaves"
+-- the list numbers at the leaves, in expression order: "One list may stand at several leaves"
 unfoldable mutual
   pub leaves : Tree → List ℕ
   leaves (leaf k) = k ∷ []
@@ -40,6 +41,7 @@ unfoldable mutual
   lengths-all ls (one t) = lengths ls t
   lengths-all ls (more t ts) = lengths ls t ++ lengths-all ls ts
 
+-- the sum of a row
 unfoldable pub sum : List ℕ → ℕ
 sum [] = 0
 sum (n ∷ ns) = n + sum ns
@@ -82,37 +84,41 @@ module _ (numbers ends expression : List ℕ) where
     pub inside : (i : ℕ) → getD (r .places) i 0 ≤ getD (lengths (s .lists) (s .tree)) i 0
 
   -- "Next calls from that bookmark then hand out every member at or above it, ascending, exactly once, and after that
-  -- reply finished": as many nexts as there are such members, and n more
+  -- reply finished": n nexts, for every n
   pub record Drawn (s : Source) (bookmark : ℕ) : Type 0 where
     pub members : List ℕ
     pub ascend : ascending members ≡ true
     pub every : (x : ℕ) → among x members ≡ leb bookmark x && member (s .lists) (s .tree) x
     pub result : ℕ → Result
-    pub ran : (n : ℕ) (ds : List ℕ) (room : ℕ) → length ds ≡ length members + n → length ds ≤ room
-        → Ran s bookmark (replicate (length members + n) 0) ds room (result n)
-    pub replies : (n : ℕ) → result n .replies ≡ map Member members ++ replicate n Finished
+    pub ran : (n : ℕ) (ds : List ℕ) → length ds ≡ n → (room : ℕ) → n ≤ room → Ran s bookmark (replicate n 0) ds room (result n)
+    pub replies : (n : ℕ) → result n .replies ≡ map Member (take n members) ++ replicate (n - length members) Finished
 
   -- "Wherever between its calls, or at either end, such a list is broken off, the rest is taken up from the bookmark
-  -- handed back; both parts' replies, one after the other, and the last bookmark equal those of the list unbroken"
-  pub record Broken (s : Source) (bookmark : ℕ) (codes ds : List ℕ) (room : ℕ) (r : Result) (k : ℕ) : Type 0 where
+  -- handed back; both parts' replies, one after the other, and the last bookmark equal those of the list unbroken": after
+  -- k calls, each part into a reply row of its own
+  pub record Broken (s : Source) (bookmark : ℕ) (codes ds : List ℕ) (r : Result) (k : ℕ) : Type 0 where
     pub first : Result
+    pub first-ran : (room : ℕ) → length (take k codes) ≤ room → Ran s bookmark (take k codes) (take k ds) room first
     pub second : Result
-    pub first-ran : Ran s bookmark (take k codes) (take k ds) room first
-    pub second-ran : Ran s (first .bookmark) (drop k codes) (drop k ds) room second
+    pub second-ran : (room : ℕ) → length (drop k codes) ≤ room → Ran s (first .bookmark) (drop k codes) (drop k ds) room second
     pub replies : r .replies ≡ first .replies ++ second .replies
     pub last : r .bookmark ≡ second .bookmark
 
-  -- "after it the replies, in order, and the bookmark are exactly those of document 01's plain machine", and the rest
-  pub record Demand-three (bookmark : ℕ) (codes ds : List ℕ) (room : ℕ) (r : Result) : Type 0 where
-    pub source : Source
-    pub is-source : source-of numbers ends expression ≡ accepted source
-    pub ran : Ran source bookmark codes ds room r
-    pub plain : (r .replies, r .bookmark) ≡ machine (source .lists) (source .tree) bookmark (calls codes ds)
-    pub drawn : Drawn source (r .bookmark)
-    pub broken : (k : ℕ) → Broken source bookmark codes ds room r k
+  -- demand 3 of one list of calls: it is accepted into every reply row that is long enough, "after it the replies, in
+  -- order, and the bookmark are exactly those of document 01's plain machine", and the rest
+  pub record Demand-three (s : Source) (bookmark : ℕ) (codes ds : List ℕ) : Type 0 where
+    pub result : Result
+    pub ran : (room : ℕ) → length codes ≤ room → Ran s bookmark codes ds room result
+    pub plain : (result .replies, result .bookmark) ≡ machine (s .lists) (s .tree) bookmark (calls codes ds)
+    pub drawn : Drawn s (result .bookmark)
+    pub broken : (k : ℕ) → Broken s bookmark codes ds result k
+
+-- a next for each member and one more; its number is ignored
+abbrev pub nexts : List ℕ → List ℕ
+nexts members = replicate (suc (length members)) 0
 
 -- ---- the program: every member of the delivered lists' expression, ascending, and the moves of "one run from bookmark
--- 0, whose only finished is its last reply"
+-- 0, whose only finished is its last reply", of the delivered lists laid one after the other
 pub record Listed (input : List ℕ) (l : Listing) : Type 0 where
   pub stored : List ℕ × List ℕ
   pub is-stored : halves input ≡ accepted stored
@@ -122,6 +128,6 @@ pub record Listed (input : List ℕ) (l : Listing) : Type 0 where
   pub ascend : ascending (l .members) ≡ true
   pub every : (x : ℕ) → among x (l .members) ≡ member (source .lists) (source .tree) x
   pub result : Result
-  pub ran : run (source .lists) (source .tree) 0 (replicate (suc (length (l .members))) next) ≡ result
+  pub ran : Ran (all-numbers (source .lists)) (ends-from 0 (source .lists)) (stored .0) source 0 (nexts (l .members)) (nexts (l .members)) (suc (length (l .members))) result
   pub replies : result .replies ≡ map Member (l .members) ++ (Finished ∷ [])
   pub moved : result .moves ≡ l .moves

@@ -1,0 +1,116 @@
+-- Lists laid one after the other in one row: their ends give them back, and pass 7, 10 and 11; and the part of list k is
+-- list k. Assumes nothing.
+use mathlib.Core.Path.{_≡_, refl, sym, ap, ap₂, _∙_}
+use mathlib.Core.Bool.{true}
+use mathlib.Core.List.{List, [], _∷_, _++_, append-assoc, append-nil}
+use Prim.Native.Nat.{ℕ, zero, suc, _+_, _-_, _≤_, _<_}
+use native.Mathlib.Omega.{arith}
+use lib.Dec.{leb}
+use borrow.Author.Tests.{le-leb, lt-ltb, le-ltb, leb-true}
+use lib.ListN.{length, getD, take, drop, length-append, length-take, length-drop}
+use lib.Seq.{take-at, drop-at}
+use Rattle.model.specs.Outcome.{refused, accepted}
+use Rattle.model.specs.Lists.{Numbers, all-ascending, part, lists-from, count-holds, ends-hold, lists-of, or-empty, span-of, part-of}
+use Rattle.model.specs.Sets.{all-numbers}
+use Rattle.model.specs.Calls.{ends-from}
+use Rattle.model.proofs.Order.{and-true, Up}
+use Rattle.model.proofs.Denoted.{up-ascending}
+use Rattle.model.proofs.Accepted.{lists-accepted}
+use Rattle.model.proofs.Deliveries.{Storable}
+
+-- behind a row `before`, and with anything after them
+laid-from : (before : List ℕ) (ls : List (List ℕ)) (after : List ℕ) → lists-from (before ++ (all-numbers ls ++ after)) (length before) (ends-from (length before) ls) ≡ ls
+unfolding lists-from ends-from part all-numbers
+laid-from before [] after = refl
+laid-from before (l ∷ ls) after =
+    let row : List ℕ = before ++ ((l ++ all-numbers ls) ++ after) in
+    let regrouped : row ≡ (before ++ l) ++ (all-numbers ls ++ after) = ap (λ (r : List ℕ). before ++ r) (append-assoc l (all-numbers ls) after) ∙ sym (append-assoc before l (all-numbers ls ++ after)) in
+    let start : drop (length before) row ≡ l ++ (all-numbers ls ++ after) = drop-at before ((l ++ all-numbers ls) ++ after) (length before) refl ∙ append-assoc l (all-numbers ls) after in
+    let size : length before + length l - length before ≡ length l = omega arith in
+    ap₂ (λ (x : List ℕ) (r : List (List ℕ)). x ∷ r)
+    (ap₂ (λ (n : ℕ) (r : List ℕ). take n r) size start ∙ take-at l (all-numbers ls ++ after) (length l) refl)
+    (ap₂ (λ (r : List ℕ) (n : ℕ). lists-from r n (ends-from n ls)) regrouped (sym (length-append before l)) ∙ laid-from (before ++ l) ls after)
+
+pub ends-length : (start : ℕ) (ls : List (List ℕ)) → length (ends-from start ls) ≡ length ls
+unfolding ends-from
+ends-length start [] = refl
+ends-length start (l ∷ ls) = ap suc (ends-length (start + length l) ls)
+
+laid-ends : (size start : ℕ) (ls : List (List ℕ)) → Storable ls → start + length (all-numbers ls) ≤ size → ends-hold size start (ends-from start ls) ≡ true
+unfolding ends-hold ends-from all-numbers
+laid-ends size start [] s h = refl
+laid-ends size start (l ∷ ls) s h =
+    let n = length-append l (all-numbers ls) in
+    cc (
+      le-leb start (start + length l) (omega arith),
+      le-leb (start + length l) size (omega (arith, n)),
+      le-leb (start + length l - start) 65535 (omega (arith, s .0 .1)),
+      laid-ends size (start + length l) ls (s .1) (omega (arith, n)),
+    )
+
+laid-rise : (ls : List (List ℕ)) → Storable ls → all-ascending ls ≡ true
+unfolding all-ascending
+laid-rise [] s = refl
+laid-rise (l ∷ ls) s = cc (up-ascending 0 l (s .0 .0), laid-rise ls (s .1))
+
+-- their numbers are numbers
+up-numbers : (lo : ℕ) (l : List ℕ) → Up lo l → Numbers l
+up-numbers lo [] u i = omega arith
+up-numbers lo (x ∷ xs) u zero = u .1
+up-numbers lo (x ∷ xs) u (suc i) = up-numbers (suc x) xs (u .2) i
+
+numbers-append : (l m : List ℕ) → Numbers l → Numbers m → Numbers (l ++ m)
+numbers-append [] m hl hm i = hm i
+numbers-append (x ∷ xs) m hl hm zero = hl 0
+numbers-append (x ∷ xs) m hl hm (suc i) = numbers-append xs m (λ j. hl (suc j)) hm i
+
+pub laid-numbers : (ls : List (List ℕ)) → Storable ls → Numbers (all-numbers ls)
+unfolding all-numbers
+laid-numbers [] s i = omega arith
+laid-numbers (l ∷ ls) s i = numbers-append l (all-numbers ls) (up-numbers 0 l (s .0 .0)) (laid-numbers ls (s .1)) i
+
+-- lists that a delivery can hold, laid one after the other, are accepted as those lists
+pub laid : (ls : List (List ℕ)) → count-holds (length ls) ≡ true → Storable ls → lists-of (all-numbers ls) (ends-from 0 ls) ≡ accepted ls
+unfolding lists-of
+laid ls c s =
+    let e : lists-from (all-numbers ls) 0 (ends-from 0 ls) ≡ ls = ap (λ (r : List ℕ). lists-from r 0 (ends-from 0 ls)) (sym (append-nil (all-numbers ls))) ∙ laid-from [] ls [] in
+    rw (ends-length 0 ls, c, laid-ends (length (all-numbers ls)) 0 ls s (omega arith), e, laid-rise ls s)
+
+-- ---- the part of list k
+
+starts : (numbers : List ℕ) (start : ℕ) (ends : List ℕ) (k : ℕ) → ends-hold (length numbers) start ends ≡ true → k < length ends
+    → take (length (getD (lists-from numbers start ends) k [])) (drop (getD (start ∷ ends) k 0) numbers) ≡ getD (lists-from numbers start ends) k []
+unfolding lists-from ends-hold part
+starts numbers start [] k h lt = absurd (omega arith)
+starts numbers start (stop ∷ ends) zero h lt =
+    let a = and-true (leb start stop) _ h in
+    let b = and-true (leb stop (length numbers)) _ (a .1) in
+    let n : length (take (stop - start) (drop start numbers)) ≡ stop - start = omega (arith, length-take (stop - start) (drop start numbers), length-drop start numbers, leb-true start stop (a .0), leb-true stop (length numbers) (b .0)) in
+    ap (λ (m : ℕ). take m (drop start numbers)) n
+starts numbers start (stop ∷ ends) (suc k) h lt =
+    let a = and-true (leb start stop) _ h in
+    let b = and-true (leb stop (length numbers)) _ (a .1) in
+    let c = and-true (leb (stop - start) 65535) _ (b .1) in
+    starts numbers stop ends k (c .1) (omega arith)
+
+lists-length : (numbers : List ℕ) (start : ℕ) (ends : List ℕ) → length (lists-from numbers start ends) ≡ length ends
+unfolding lists-from
+lists-length numbers start [] = refl
+lists-length numbers start (stop ∷ ends) = ap suc (lists-length numbers stop ends)
+
+-- list k itself, of accepted lists that have it
+pub part-is : (numbers ends : List ℕ) (ls : List (List ℕ)) (k : ℕ) → lists-of numbers ends ≡ accepted ls → k < length ls → part-of numbers ends k ≡ getD ls k []
+unfolding part-of span-of or-empty
+part-is numbers ends ls k e lt =
+    let a = lists-accepted numbers ends ls e in
+    let n : length ls ≡ length ends = ap length (sym (a .are)) ∙ lists-length numbers 0 ends in
+    rw (e, lt-ltb k (length ls) lt) (ap (λ (m : List (List ℕ)). take (length (getD m k [])) (drop (getD (0 ∷ ends) k 0) numbers)) (sym (a .are)) ∙ starts numbers 0 ends k (a .hold) (omega arith) ∙ ap (λ (m : List (List ℕ)). getD m k []) (a .are))
+
+-- the empty part at the start, where no such list is there or a test refuses the lists
+pub part-missing : (numbers ends : List ℕ) (ls : List (List ℕ)) (k : ℕ) → lists-of numbers ends ≡ accepted ls → length ls ≤ k → span-of numbers ends k ≡ record { start = 0; size = 0 }
+unfolding span-of or-empty
+part-missing numbers ends ls k e le = rw (e, le-ltb k (length ls) le)
+
+pub part-refused : (numbers ends : List ℕ) (k n : ℕ) → lists-of numbers ends ≡ refused n → span-of numbers ends k ≡ record { start = 0; size = 0 }
+unfolding span-of or-empty
+part-refused numbers ends k n e = rw e
