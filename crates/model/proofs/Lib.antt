@@ -16,3 +16,5 @@ pub mod Laid
 pub mod Listing
 pub mod Bits
 pub mod Trees
+pub mod Shape
+pub mod Replies

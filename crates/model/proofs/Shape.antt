@@ -1,0 +1,133 @@
+-- What every call sends back has one shape, accepted or refused: as many parts as its result has, and every lent row as
+-- long as it was. Assumes nothing.
+use mathlib.Core.Path.{_≡_, refl, ap, ap₂, _∙_, subst}
+use mathlib.Core.List.{List, [], _∷_, _++_, map}
+use Prim.Native.Nat.{ℕ, suc, _≤_}
+use native.Mathlib.Omega.{arith}
+use lib.Dec.{leb}
+use borrow.Author.Tests.{leb-true}
+use lib.ListN.{length, drop, length-append, length-drop, length-map, length-replicate}
+use Rattle.model.specs.Outcome.{Outcome, refused, accepted, Sent, Success, over, sent}
+use Rattle.model.specs.Lists.{count-holds, lists-of}
+use Rattle.model.specs.Expression.{Tree, leaf, difference, union, intersection, Members, one, more, size, sizes}
+use Rattle.model.specs.Machine.{Call, calls, encode}
+use Rattle.model.specs.Run.{State, step, steps, begin, Result, run, run-of}
+use Rattle.model.specs.Forms.{nodes, nodes-all, row-byte, row, packed, read-row, read-packed}
+use Rattle.model.specs.Delivery.{delivery, read-delivery}
+use Rattle.model.specs.Calls.{unpack-expression, pack-expression, decode-delivery, encode-delivery, run-call}
+use Rattle.model.proofs.Accepted.{accepted-same, bound, required, packed-reads}
+use Rattle.model.proofs.Places.{counted-run}
+use Rattle.model.proofs.Deliveries.{delivery-holds}
+use Rattle.model.proofs.Laid.{ends-length}
+use Rattle.model.proofs.DemandThree.{Accepted-run, run-accepted, source-accepted}
+
+pub record Shape (parts : ℕ) (rows : List (List ℕ)) (s : Sent) : Type 0 where
+  pub parts-long : length (s .parts) ≡ parts
+  pub rows-long : map length (s .rows) ≡ map length rows
+
+-- what is written fits its row
+abbrev Fit : List (List ℕ) → List (List ℕ) → Type 0
+Fit [] rows = Unit {0}
+Fit (w ∷ ws) [] = Unit {0}
+Fit (w ∷ ws) (r ∷ rs) = (length w ≤ length r) × Fit ws rs
+
+over-long : (ws rows : List (List ℕ)) → Fit ws rows → map length (over ws rows) ≡ map length rows
+unfolding over
+over-long [] rows f = refl
+over-long (w ∷ ws) [] f = refl
+over-long (w ∷ ws) (r ∷ rs) f = ap₂ (λ (n : ℕ) (ns : List ℕ). n ∷ ns) (length-append w (drop (length w) r) ∙ omega (arith, length-drop (length w) r)) (over-long ws rs (f .1))
+
+abbrev Fits : ℕ → List (List ℕ) → Success → Type 0
+Fits parts rows s = (length (s .parts) ≡ parts) × Fit (s .written) rows
+
+sent-shape : (parts : ℕ) (rows : List (List ℕ)) (o : Outcome Success) → ((s : Success) → o ≡ accepted s → Fits parts rows s) → Shape parts rows (sent parts rows o)
+unfolding sent
+sent-shape parts rows (refused n) h = record { parts-long = length-replicate parts 0; rows-long = refl }
+sent-shape parts rows (accepted s) h = record { parts-long = h s refl .0; rows-long = over-long (s .written) rows (h s refl .1) }
+
+-- a tree has as many nodes in its row as it has nodes
+mutual
+  unfolding nodes size
+
+  nodes-long : (t : Tree) → length (nodes t) ≡ size t
+  nodes-long (leaf k) = refl
+  nodes-long (difference s t) = omega (arith, length-append (nodes s) (nodes t), nodes-long s, nodes-long t)
+  nodes-long (union ts) = omega (arith, nodes-all-long ts)
+  nodes-long (intersection ts) = omega (arith, nodes-all-long ts)
+
+  nodes-all-long : (ts : Members) → length (nodes-all ts) ≡ sizes ts
+  nodes-all-long (one t) = nodes-long t
+  nodes-all-long (more t ts) = omega (arith, length-append (nodes t) (nodes-all ts), nodes-long t, nodes-all-long ts)
+
+pub row-long : (t : Tree) → length (row t) ≡ size t
+unfolding row
+row-long t = length-map (nodes t) row-byte ∙ nodes-long t
+
+-- a run has one reply for each call
+steps-long : (ls : List (List ℕ)) (t : Tree) (s : State) (cs : List Call) → length (steps ls t s cs .0) ≡ length cs
+unfolding steps
+steps-long ls t s [] = refl
+steps-long ls t s (c ∷ cs) = ap suc (steps-long ls t (step ls t s c .1) cs)
+
+calls-long : (codes ds : List ℕ) → length codes ≡ length ds → length (calls codes ds) ≡ length codes
+unfolding calls
+calls-long [] ds h = refl
+calls-long (c ∷ cs) [] h = absurd (omega arith)
+calls-long (c ∷ cs) (d ∷ ds) h = ap suc (calls-long cs ds (omega arith))
+
+pub replies-long : (ls : List (List ℕ)) (t : Tree) (bookmark : ℕ) (codes ds : List ℕ) → length codes ≡ length ds → length (run ls t bookmark (calls codes ds) .replies) ≡ length codes
+unfolding run
+replies-long ls t bookmark codes ds h = steps-long ls t (begin bookmark) (calls codes ds) ∙ calls-long codes ds h
+
+-- ---- the calls
+
+pub unpack-shape : (bytes : List ℕ) (lists : ℕ) (lent : List ℕ) → Shape 1 (lent ∷ []) (unpack-expression bytes lists lent)
+unfolding unpack-expression
+unpack-shape bytes lists lent = sent-shape 1 (lent ∷ []) _ (λ s e.
+    let a = required 7 (count-holds lists) _ s e in
+    let b = bound (read-packed lists bytes) _ s (a .1) in
+    let c = required 6 (leb (size (b .got)) (length lent)) _ s (b .rest) in
+    subst (Fits 1 (lent ∷ [])) (accepted-same (c .1)) (refl, (omega (arith, row-long (b .got), leb-true (size (b .got)) (length lent) (c .0)), tt)))
+
+pub pack-shape : (bytes : List ℕ) (lists : ℕ) (lent : List ℕ) → Shape 1 (lent ∷ []) (pack-expression bytes lists lent)
+unfolding pack-expression
+pack-shape bytes lists lent = sent-shape 1 (lent ∷ []) _ (λ s e.
+    let a = required 7 (count-holds lists) _ s e in
+    let b = bound (read-row lists bytes) _ s (a .1) in
+    let c = required 6 (leb (length (packed (b .got))) (length lent)) _ s (b .rest) in
+    subst (Fits 1 (lent ∷ [])) (accepted-same (c .1)) (refl, (leb-true (length (packed (b .got))) (length lent) (c .0), tt)))
+
+pub decode-shape : (bytes lent-numbers lent-ends : List ℕ) → Shape 2 (lent-numbers ∷ lent-ends ∷ []) (decode-delivery bytes lent-numbers lent-ends)
+unfolding decode-delivery
+decode-shape bytes lent-numbers lent-ends = sent-shape 2 (lent-numbers ∷ lent-ends ∷ []) _ (λ s e.
+    let a = bound (read-delivery (length lent-numbers) (length lent-ends) bytes) _ s e in
+    let d = delivery-holds (length lent-numbers) (length lent-ends) bytes (a .got) (a .first) in
+    subst (Fits 2 (lent-numbers ∷ lent-ends ∷ [])) (accepted-same (a .rest)) (refl, (d .numbers, (omega (arith, d .ends, ends-length 0 (a .got)), tt))))
+
+pub encode-shape : (numbers ends lent : List ℕ) → Shape 1 (lent ∷ []) (encode-delivery numbers ends lent)
+unfolding encode-delivery
+encode-shape numbers ends lent = sent-shape 1 (lent ∷ []) _ (λ s e.
+    let a = bound (lists-of numbers ends) _ s e in
+    let b = required 6 (leb (length (delivery (a .got))) (length lent)) _ s (a .rest) in
+    subst (Fits 1 (lent ∷ [])) (accepted-same (b .1)) (refl, (leb-true (length (delivery (a .got))) (length lent) (b .0), tt)))
+
+run-fits : (numbers ends expression : List ℕ) (bookmark : ℕ) (codes ds lent : List ℕ) (got : Result) → Accepted-run numbers ends expression bookmark codes ds (length lent) got
+    → Fits 50 (lent ∷ []) (record { parts = got .moves ∷ (got .places ++ (got .bookmark ∷ [])); written = map encode (got .replies) ∷ [] })
+unfolding run
+run-fits numbers ends expression bookmark codes ds lent got r =
+    let ls = r .source .lists in
+    let t = r .source .tree in
+    let c = counted-run ls t (packed-reads (length ends) expression t (source-accepted numbers ends expression (r .source) (r .is-source) .1) .nodes) bookmark (calls codes ds) in
+    let places = steps ls t (begin bookmark) (calls codes ds) .1 .readers .places in
+    let last = steps ls t (begin bookmark) (calls codes ds) .1 .floor in
+    subst (λ (g : Result). Fits 50 (lent ∷ []) (record { parts = g .moves ∷ (g .places ++ (g .bookmark ∷ [])); written = map encode (g .replies) ∷ [] })) (r .are) (
+      omega (arith, length-append places (last ∷ []), c .long),
+      (omega (arith, length-map (steps ls t (begin bookmark) (calls codes ds) .0) encode, replies-long ls t bookmark codes ds (r .paired), r .fits), tt),
+    )
+
+pub run-shape : (numbers ends expression : List ℕ) (bookmark : ℕ) (codes ds lent : List ℕ) → Shape 50 (lent ∷ []) (run-call numbers ends expression bookmark codes ds lent)
+unfolding run-call
+run-shape numbers ends expression bookmark codes ds lent = sent-shape 50 (lent ∷ []) _ (λ s e.
+    let a = bound (run-of numbers ends expression bookmark codes ds (length lent)) _ s e in
+    subst (Fits 50 (lent ∷ [])) (accepted-same (a .rest))
+    (run-fits numbers ends expression bookmark codes ds lent (a .got) (run-accepted numbers ends expression bookmark codes ds (length lent) (a .got) (a .first))))
