@@ -14,7 +14,7 @@ use Rattle.model.specs.declared.Node.the-variants.{Leaf, Difference, Uni
 use Rattle.model.specs.Outcome.{Outcome, refused, accepted, _>>=_, _>>_, require}
 use Rattle.model.specs.Lists.{top, Numbers, rises, ascending, all-ascending, part, lists-from, lists-of, count-holds, ends-hold}
 use Rattle.model.specs.Expression.{Tree, leaf, difference, union, intersection, Members, one, more, size, sizes, depth, depths, count}
-use Rattle.model.specs.Fields.{bit, value, take-field, bits, only-fill}
+use Rattle.model.specs.Fields.{value, take-field, bits, only-fill}
 use Rattle.model.specs.Forms.{node-of, take-byte, take-rest, take-kind, take-node, read-members, operator, read-below, read-tree, read-row, read-packed}
 use Rattle.model.specs.Demands.{Named, Named-all, Expression}
 use Rattle.model.proofs.Order.{and-true, split, Up}
@@ -214,7 +214,7 @@ few-byte (b ∷ bs) r e =
 
 -- bits write a number that they hold
 pub value-lt : (bs : List Bool) → value bs < 2 ^ length bs
-unfolding value bit
+unfolding value
 value-lt [] = omega arith
 value-lt (true ∷ bs) = rw (pow-suc 2 (length bs)) (omega (arith, value-lt bs))
 value-lt (false ∷ bs) = rw (pow-suc 2 (length bs)) (omega (arith, value-lt bs))

@@ -1,7 +1,7 @@
 -- Laws of fields, over the width: what was written as a field is taken off again, and what was taken off was written so;
 -- bits as bytes, and bytes as bits. Assumes nothing.
 use mathlib.Core.Path.{_≡_, refl, sym, ap, ap₂, _∙_}
-use mathlib.Core.Bool.{Bool, true, false}
+use mathlib.Core.Bool.{Bool, true, false, cond}
 use mathlib.Core.List.{List, [], _∷_, _++_, append-assoc, append-nil}
 use Prim.Native.Nat.{ℕ, zero, suc, _+_, _-_, _*_, _/_, _%_, _^_, _≤_, _<_}
 use native.Mathlib.Omega.{arith}
@@ -12,7 +12,7 @@ use lib.ListN.{length, take, drop, replicate, length-append, length-take, length
 use lib.Seq.{take-at, drop-at, take-append-le, drop-append-le, take-append-add}
 use borrow.Author.Tests.{ltb-true, lt-ltb, leb-true, le-leb}
 use Rattle.model.specs.Outcome.{accepted}
-use Rattle.model.specs.Fields.{Bytes, field, bits, bit, value, take-field, zeros, only-fill, fill, bytes}
+use Rattle.model.specs.Fields.{Bytes, field, bits, value, take-field, zeros, only-fill, fill, bytes}
 use Rattle.model.proofs.Order.{and-true, not-both, split}
 use Rattle.model.proofs.Accepted.{required, accepted-same, value-lt}
 
@@ -21,14 +21,16 @@ unfolding field
 field-length zero n = refl
 field-length (suc w) n = ap suc (field-length w n)
 
+-- a bit as a number
+abbrev bit : Bool → ℕ
+bit b = cond b 1 0
+
 bit-of : (m : ℕ) → m < 2 → bit (eqb m 1) ≡ m
-unfolding bit
 bit-of zero h = refl
 bit-of (suc zero) h = refl
 bit-of (suc (suc m)) h = absurd (omega arith)
 
 of-bit : (b : Bool) → eqb (bit b % 2) 1 ≡ b
-unfolding bit
 of-bit true = refl
 of-bit false = refl
 

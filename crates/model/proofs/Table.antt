@@ -1,12 +1,13 @@
 -- 01's table: P1 to P9 as one theorem about the definitions, and the small inputs of the refusal table as another.
 -- Each side computes, so each proof is `refl`. Assumes nothing.
 use mathlib.Core.Path.{_≡_, refl}
+use mathlib.Core.Bool.{true, false}
 use mathlib.Core.List.{List, [], _∷_, _++_, map}
 use Prim.Native.Nat.{ℕ, _-_}
 use lib.ListN.{replicate, length}
 use Rattle.model.specs.declared.Reply.{Reply}
 use Rattle.model.specs.declared.Reply.the-variants.{Member, Finished, Yes, No, Unknown}
-use Rattle.model.specs.Outcome.{accepted, Sent, sent, over}
+use Rattle.model.specs.Outcome.{refused, accepted, Sent, sent, over}
 use Rattle.model.specs.Lists
 use Rattle.model.specs.Expression.{Tree, leaf, difference, union, intersection, Members, one, more, size, sizes, count}
 use Rattle.model.specs.Sets
@@ -23,8 +24,32 @@ use Rattle.model.specs.Calls.{unpack-expression, pack-expression, decode
 use Rattle.model.specs.Program.{halves, listing}
 
 -- opens the definitions: under `unfolding computes` each side of a table computes
+opens-lists : Unit {0}
+unfolding sent over Lists.span-of Lists.or-empty Lists.count-holds Lists.lists-of Lists.lists-from Lists.part Lists.ends-hold Lists.all-ascending Lists.ascending Lists.rises size count sizes
+opens-lists = tt
+
+opens-machine : Unit {0}
+unfolding Sets.least-from Sets.least Sets.lower Sets.all-numbers Sets.member Sets.among Sets.members-from Sets.select Sets.insert machine reply draw encode calls call
+opens-machine = tt
+
+opens-steps : Unit {0}
+unfolding Steps.seek Steps.check-node Steps.read Steps.answer Steps.passed Steps.fuel Steps.differ Steps.unite Steps.follow Steps.intersect Steps.is-at Steps.turned Steps.on-yes Steps.on-no run Run.begin Run.steps Run.step Run.drawn Run.told run-of Run.source-of
+opens-steps = tt
+
+opens-forms : Unit {0}
+unfolding Fields.take-field Fields.bits Fields.field Fields.value Fields.only-fill Fields.zeros Fields.bytes Fields.fill read-packed Forms.read-tree Forms.read-below Forms.operator Forms.read-members Forms.take-node Forms.take-kind Forms.take-rest packed Forms.packed-nodes Forms.packed-node Forms.nodes read-row Forms.take-byte Forms.node-of row Forms.row-byte
+opens-forms = tt
+
+opens-delivery : Unit {0}
+unfolding read-delivery Delivery.read-lists Delivery.read-list Delivery.read-body Delivery.read-later Delivery.read-gaps Delivery.width Delivery.width-from Delivery.largest-gap delivery Delivery.lists-bits Delivery.list-bits Delivery.body-bits Delivery.later-bits Delivery.gap-bits
+opens-delivery = tt
+
+opens-calls : Unit {0}
+unfolding unpack-expression pack-expression decode-delivery encode-delivery run-call ends-from listing halves
+opens-calls = tt
+
 computes : Unit {0}
-unfolding machine reply draw Sets.least-from Sets.least Sets.lower Sets.all-numbers Sets.member Sets.among size run Run.begin Run.steps Run.step Run.drawn Run.told Steps.seek Steps.check-node Steps.read Steps.answer Steps.passed Steps.fuel Steps.differ Steps.unite Steps.follow Steps.intersect Steps.is-at Steps.turned Steps.on-yes Steps.on-no read-packed Forms.read-tree Forms.read-below Forms.operator Forms.read-members Forms.take-node Forms.take-kind Forms.take-rest Fields.take-field Fields.bits Fields.field Fields.value Fields.bit Fields.only-fill Fields.zeros packed Forms.packed-nodes Forms.packed-node Forms.nodes Fields.bytes Fields.fill count read-delivery Delivery.read-lists Delivery.read-list Delivery.read-body Delivery.read-later Delivery.read-gaps Delivery.width Delivery.width-from Delivery.largest-gap Lists.count-holds delivery Delivery.lists-bits Delivery.list-bits Delivery.body-bits Delivery.later-bits Delivery.gap-bits sent over unpack-expression pack-expression decode-delivery encode-delivery run-call run-of Run.source-of Lists.lists-of Lists.lists-from Lists.part Lists.ends-hold Lists.all-ascending Lists.ascending Lists.rises read-row Forms.take-byte Forms.node-of ends-from row sizes Forms.row-byte encode calls call listing halves Sets.members-from Sets.select Sets.insert
+unfolding opens-lists opens-machine opens-steps opens-forms opens-delivery opens-calls
 computes = tt
 
 -- L0 to L3 of the report's figures 1 to 3
@@ -193,7 +218,7 @@ papers = record { P1-to-P7 = refl; P8-read = refl; P8-written = refl; P9-read = 
 
 -- 01's slipping points that no P shows, and a call of each code: a number that two union members hold is handed out
 -- once; a difference whose second part has finished goes on; past D, a check that only the second union member answers,
--- and code 4, after which the next call is unaffected
+-- and code 4, after which the next call is unaffected; a check that stops early, or stands below the floor, moves nothing
 abbrev pub slips : List Row
 slips =
     record {
@@ -225,6 +250,36 @@ slips =
       last = 4294967296;
       moves = 4;
       places = 0 ∷ 1 ∷ 3 ∷ [];
+    } ∷
+    record {
+      lists = (5 ∷ []) ∷ (1 ∷ 5 ∷ []) ∷ [];
+      tree = union (more (leaf 0) (one (leaf 1)));
+      bookmark = 0;
+      calls = check 5 ∷ check 3 ∷ [];
+      replies = Yes ∷ No ∷ [];
+      last = 5;
+      moves = 0;
+      places = [];
+    } ∷
+    record {
+      lists = (5 ∷ []) ∷ (1 ∷ 5 ∷ []) ∷ [];
+      tree = intersection (more (leaf 0) (one (leaf 1)));
+      bookmark = 0;
+      calls = check 3 ∷ [];
+      replies = No ∷ [];
+      last = 3;
+      moves = 0;
+      places = [];
+    } ∷
+    record {
+      lists = (5 ∷ []) ∷ (1 ∷ 5 ∷ []) ∷ [];
+      tree = difference (leaf 0) (leaf 1);
+      bookmark = 0;
+      calls = check 3 ∷ [];
+      replies = No ∷ [];
+      last = 3;
+      moves = 0;
+      places = [];
     } ∷ []
 
 pub slipping-points : map computed slips ≡ map stated slips
@@ -284,6 +339,82 @@ pub successes :
     } ∷ []
 unfolding computes
 successes = refl
+
+-- ---- tests at their bounds and in their order: a refusal of so many parts, and a success
+abbrev refuses : ℕ → ℕ → List (List ℕ) → Sent
+refuses n parts rows = record { number = n; parts = replicate parts 0; rows = rows }
+
+abbrev gives : List ℕ → List (List ℕ) → Sent
+gives parts rows = record { number = 0; parts = parts; rows = rows }
+
+pub record Edges : Type 0 where
+  -- 7 comes before all: 0 and 33 lists, and 32 are there
+  unpack-7 : unpack-expression (0x01 ∷ []) 0 (7 ∷ []) ≡ refuses 7 1 ((7 ∷ []) ∷ [])
+  unpack-33 : unpack-expression (0x00 ∷ []) 33 (7 ∷ []) ≡ refuses 7 1 ((7 ∷ []) ∷ [])
+  unpack-31 : unpack-expression (0x3E ∷ []) 32 (7 ∷ []) ≡ gives (1 ∷ []) ((31 ∷ []) ∷ [])
+  pack-7 : pack-expression (32 ∷ []) 0 (7 ∷ []) ≡ refuses 7 1 ((7 ∷ []) ∷ [])
+  encode-7 : encode-delivery [] [] [] ≡ refuses 7 1 ([] ∷ [])
+  -- an intersection of lists 0 and 1, into rows that just fit; 6 comes last, one element short
+  unpack-fits : unpack-expression (0xC8 ∷ 0x00 ∷ 0x20 ∷ []) 2 (7 ∷ 7 ∷ 7 ∷ []) ≡ gives (3 ∷ []) ((194 ∷ 0 ∷ 1 ∷ []) ∷ [])
+  unpack-short : unpack-expression (0xC8 ∷ 0x00 ∷ 0x20 ∷ []) 2 (7 ∷ 7 ∷ []) ≡ refuses 6 1 ((7 ∷ 7 ∷ []) ∷ [])
+  unpack-none : unpack-expression [] 1 [] ≡ refuses 1 1 ([] ∷ [])
+  pack-fits : pack-expression (194 ∷ 0 ∷ 1 ∷ []) 2 (7 ∷ 7 ∷ 7 ∷ []) ≡ gives (3 ∷ []) ((0xC8 ∷ 0x00 ∷ 0x20 ∷ []) ∷ [])
+  pack-bytes : pack-expression (64 ∷ 0 ∷ 1 ∷ []) 2 (7 ∷ 7 ∷ []) ≡ gives (2 ∷ []) ((0x40 ∷ 0x01 ∷ []) ∷ [])
+  pack-short : pack-expression (64 ∷ 0 ∷ 1 ∷ []) 2 (7 ∷ []) ≡ refuses 6 1 ((7 ∷ []) ∷ [])
+  encode-fits : encode-delivery (2 ∷ 3 ∷ 5 ∷ []) (3 ∷ []) (replicate 8 7) ≡ gives (8 ∷ []) ((0x04 ∷ 0x00 ∷ 0x0C ∷ 0x00 ∷ 0x00 ∷ 0x00 ∷ 0x08 ∷ 0x08 ∷ []) ∷ [])
+  encode-short : encode-delivery (2 ∷ 3 ∷ 5 ∷ []) (3 ∷ []) (replicate 7 7) ≡ refuses 6 1 (replicate 7 7 ∷ [])
+  -- a row that ends early, and a node left over
+  row-early : pack-expression (64 ∷ 0 ∷ []) 1 (7 ∷ []) ≡ refuses 1 1 ((7 ∷ []) ∷ [])
+  row-over : pack-expression (0 ∷ 0 ∷ []) 1 (7 ∷ []) ≡ refuses 5 1 ((7 ∷ []) ∷ [])
+  -- an empty list is fine, an end may not pass the row, and a list may have 65,535 numbers
+  empty-lists : encode-delivery [] (0 ∷ 0 ∷ []) (replicate 5 7) ≡ gives (5 ∷ []) ((0x08 ∷ 0x00 ∷ 0x00 ∷ 0x00 ∷ 0x00 ∷ []) ∷ [])
+  end-passes : encode-delivery (2 ∷ 3 ∷ []) (3 ∷ []) [] ≡ refuses 10 1 ([] ∷ [])
+  long-lists : Lists.ends-hold 131070 0 (65535 ∷ 131070 ∷ []) ≡ true
+  too-long : Lists.ends-hold 65536 0 (65536 ∷ []) ≡ false
+  -- two lists read, each with its end
+  two-ends : decode-delivery (0x08 ∷ 0x00 ∷ 0x04 ∷ 0x00 ∷ 0x00 ∷ 0x00 ∷ 0x14 ∷ 0x00 ∷ 0x04 ∷ 0x00 ∷ 0x00 ∷ 0x00 ∷ 0x1C ∷ []) (9 ∷ 9 ∷ []) (9 ∷ 9 ∷ []) ≡ gives (2 ∷ 2 ∷ []) ((5 ∷ 7 ∷ []) ∷ (1 ∷ 2 ∷ []) ∷ [])
+  -- the reply row one short; code 1 draws D itself
+  replies-short : run-call (5 ∷ []) (1 ∷ []) (0x00 ∷ []) 0 (0 ∷ []) (0 ∷ []) [] ≡ refuses 13 50 ([] ∷ [])
+  at-d : run-call (5 ∷ 6 ∷ []) (2 ∷ []) (0x00 ∷ []) 0 (1 ∷ []) (5 ∷ []) (7 ∷ []) ≡ gives (0 ∷ (replicate 48 0 ++ (6 ∷ []))) ((5 ∷ []) ∷ [])
+  -- the part of a list: its place and its length; the empty part at the start where there is none, or 11 would apply
+  part-1 : Lists.span-of (2 ∷ 3 ∷ 5 ∷ 7 ∷ []) (1 ∷ 3 ∷ []) 1 ≡ record { start = 1; size = 2 }
+  part-2 : Lists.span-of (2 ∷ 3 ∷ 5 ∷ 7 ∷ []) (1 ∷ 3 ∷ []) 2 ≡ record { start = 0; size = 0 }
+  part-11 : Lists.span-of (2 ∷ 3 ∷ 3 ∷ []) (1 ∷ 3 ∷ []) 1 ≡ record { start = 0; size = 0 }
+  -- the program: no length byte, an expression that is short
+  no-length : listing [] ≡ refused 1
+  short-expression : listing (0x05 ∷ 0x00 ∷ []) ≡ refused 1
+
+pub edges : Edges
+unfolding computes
+edges = record {
+  unpack-7 = refl;
+  unpack-33 = refl;
+  unpack-31 = refl;
+  pack-7 = refl;
+  encode-7 = refl;
+  unpack-fits = refl;
+  unpack-short = refl;
+  unpack-none = refl;
+  pack-fits = refl;
+  pack-bytes = refl;
+  pack-short = refl;
+  encode-fits = refl;
+  encode-short = refl;
+  row-early = refl;
+  row-over = refl;
+  empty-lists = refl;
+  end-passes = refl;
+  long-lists = refl;
+  too-long = refl;
+  two-ends = refl;
+  replies-short = refl;
+  at-d = refl;
+  part-1 = refl;
+  part-2 = refl;
+  part-11 = refl;
+  no-length = refl;
+  short-expression = refl;
+}
 
 -- the program's stored example: 01 00 04 00 0C 00 00 00 08 08
 pub example : listing (0x01 ∷ 0x00 ∷ 0x04 ∷ 0x00 ∷ 0x0C ∷ 0x00 ∷ 0x00 ∷ 0x00 ∷ 0x08 ∷ 0x08 ∷ []) ≡ accepted (record { members = 2 ∷ 3 ∷ 5 ∷ []; moves = 3 })

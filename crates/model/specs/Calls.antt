@@ -1,4 +1,5 @@
--- The public calls whole: what each sends back, for all arguments, with its lent rows to their last element.
+-- The public calls that write into lent rows, whole: what each sends back, for all arguments, with its lent rows to
+-- their last element. (The part of a list is `Lists.part-of`, the program `Program.listing`.)
 use mathlib.Core.List.{List, [], _∷_, _++_, map}
 use Prim.Native.Nat.{ℕ, _+_}
 use lib.Dec.{leb}

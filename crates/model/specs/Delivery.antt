@@ -41,6 +41,7 @@ body-bits (x ∷ xs) = field 32 x ++ later-bits x xs
 unfoldable pub list-bits : List ℕ → List Bool
 list-bits l = field 16 (length l) ++ body-bits l
 
+-- each list behind the one before it
 unfoldable pub lists-bits : List (List ℕ) → List Bool
 lists-bits [] = []
 lists-bits (l ∷ ls) = list-bits l ++ lists-bits ls
@@ -82,6 +83,7 @@ read-list room bs = do
   require 6 (leb count room)
   read-body count bs₁
 
+-- so many lists, each in the room that those before it have left
 unfoldable pub read-lists : ℕ → ℕ → List Bool → Outcome (List (List ℕ) × List Bool)
 read-lists zero room bs = accepted ([], bs)
 read-lists (suc n) room bs = do

@@ -1,6 +1,6 @@
 -- "Stored forms": "fields run on across byte borders, most significant bit first, and zero bits fill the last byte,
 -- fewer than eight".
-use mathlib.Core.Bool.{Bool, true, false, not, _&&_}
+use mathlib.Core.Bool.{Bool, true, false, not, _&&_, cond}
 use mathlib.Core.List.{List, [], _∷_, _++_}
 use Prim.Native.Nat.{ℕ, zero, suc, _+_, _*_, _/_, _%_, _^_, _<_}
 use lib.Dec.{ltb, leb, eqb}
@@ -22,13 +22,9 @@ bits [] = []
 bits (b ∷ bs) = field 8 b ++ bits bs
 
 -- the number that bits write
-unfoldable pub bit : Bool → ℕ
-bit false = 0
-bit true = 1
-
 unfoldable pub value : List Bool → ℕ
 value [] = 0
-value (b ∷ bs) = bit b * 2 ^ length bs + value bs
+value (b ∷ bs) = cond b 1 0 * 2 ^ length bs + value bs
 
 -- a field of w bits is taken off, 1 if the bits run out
 unfoldable pub take-field : ℕ → List Bool → Outcome (ℕ × List Bool)

@@ -1,4 +1,5 @@
--- 01-scope.md as definitions, in its order. Nothing here is proved, and nothing here is assumed.
+-- Document 01 as definitions, in its order, but that what a definition needs stands before it. Nothing here is proved,
+-- and nothing here is assumed.
 pub mod Outcome
 pub mod Lists
 pub mod Expression

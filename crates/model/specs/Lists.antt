@@ -23,6 +23,7 @@ unfoldable pub ascending : List ℕ → Bool
 ascending [] = true
 ascending (x ∷ xs) = rises x xs
 
+-- 11 does not apply: every list is a list set
 unfoldable pub all-ascending : List (List ℕ) → Bool
 all-ascending [] = true
 all-ascending (l ∷ ls) = ascending l && all-ascending ls

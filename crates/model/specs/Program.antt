@@ -17,6 +17,7 @@ halves (n ∷ bs) = do
   require 1 (leb n (length bs))
   accepted (take n bs, drop n bs)
 
+-- what is printed: "each member on a line, then `moves` and the count"
 pub record Listing : Type 0 where
   pub members : List ℕ
   pub moves : ℕ

@@ -13,6 +13,7 @@ use Rattle.model.specs.Machine.{Call, next, at-or-past, past, check, oth
 use Rattle.model.specs.Steps.{Readers, Found, end, at, Checked, says, seek, check-node}
 use Rattle.model.specs.Forms.{read-packed}
 
+-- what one call leaves to the next: floor, places and moves
 pub record State : Type 0 where
   pub floor : ℕ
   pub readers : Readers
@@ -22,6 +23,7 @@ unfoldable pub drawn : Found → Reply × State
 drawn (end rs) = (Finished, record { floor = top; readers = rs })
 drawn (at x rs) = (Member x, record { floor = suc x; readers = rs })
 
+-- a check's reply; its number is not below the floor, so the floor becomes it
 unfoldable pub told : ℕ → Checked → Reply × State
 told d (says b rs) = (cond b Yes No, record { floor = d; readers = rs })
 
@@ -33,6 +35,7 @@ step ls t s (past d) = drawn (seek ls t 0 (max (s .floor) (suc d)) (s .readers))
 step ls t s (check d) = elim (ltb d (s .floor)) [ true ↦ (No, s) | false ↦ told d (check-node ls t 0 d (s .readers)) ]
 step ls t s other = (Unknown, s)
 
+-- the calls one after another: the replies in order, and the last state
 unfoldable pub steps : List (List ℕ) → Tree → State → List Call → List Reply × State
 steps ls t s [] = ([], s)
 steps ls t s (c ∷ cs) =

@@ -7,7 +7,8 @@ use lib.ListN.{getD, set, drop}
 use Rattle.model.specs.Lists.{top}
 use Rattle.model.specs.Expression.{Tree, leaf, difference, union, intersection, Members, one, more, size}
 
--- the readers of a run: one place for each node in expression order, and the moves made so far
+-- the readers of a run: "one place for each of the 48 possible nodes in expression order, 0 at operators and unused
+-- nodes", and the moves made so far
 pub record Readers : Type 0 where
   pub places : List ℕ
   pub moves : ℕ

@@ -1,7 +1,7 @@
 // The types that the definitions and every other crate share. Their meaning is in specs/.
 
-// One node of an expression: a list by its number, a difference of the next two nodes, a union or an intersection of
-// the next 1 to 8.
+// One node of an expression: a list by its number, a difference of two nodes, a union or an intersection of 1 to 8
+// (their number). Its member nodes follow it, each with all that is below it.
 pub enum Node {
     Leaf(u8),
     Difference,
