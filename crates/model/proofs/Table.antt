@@ -261,26 +261,19 @@ slips =
       moves = 0;
       places = [];
     } ∷
-    record {
+    says-no (intersection (more (leaf 0) (one (leaf 1)))) ∷ says-no (difference (leaf 0) (leaf 1)) ∷ []
+  where
+    says-no : Tree → Row
+    says-no t = record {
       lists = (5 ∷ []) ∷ (1 ∷ 5 ∷ []) ∷ [];
-      tree = intersection (more (leaf 0) (one (leaf 1)));
+      tree = t;
       bookmark = 0;
       calls = check 3 ∷ [];
       replies = No ∷ [];
       last = 3;
       moves = 0;
       places = [];
-    } ∷
-    record {
-      lists = (5 ∷ []) ∷ (1 ∷ 5 ∷ []) ∷ [];
-      tree = difference (leaf 0) (leaf 1);
-      bookmark = 0;
-      calls = check 3 ∷ [];
-      replies = No ∷ [];
-      last = 3;
-      moves = 0;
-      places = [];
-    } ∷ []
+    }
 
 pub slipping-points : map computed slips ≡ map stated slips
 unfolding computes

@@ -79,8 +79,8 @@ take-node bs = do
   (kind, rest) ← take-field 2 bs
   take-kind kind rest
 
--- Reading either form, from a source off which `take` takes one node
-module _ {S : Type 0} (lists : ℕ) (take : S → Outcome (Node × S)) where
+-- Reading either form, from a source off which `take-one` takes one node
+module _ {S : Type 0} (lists : ℕ) (take-one : S → Outcome (Node × S)) where
   -- a tree, or member nodes, with how many nodes are read and the source behind them
   abbrev pub Reading : Type 0 → Type 0
   Reading A = Outcome (A × ℕ × S)
@@ -119,7 +119,7 @@ module _ {S : Type 0} (lists : ℕ) (take : S → Outcome (Node × S)) where
     refused 3
   read-tree (suc depth) done source = do
     require 2 (ltb done 48)
-    (node, rest) ← take source
+    (node, rest) ← take-one source
     read-below (read-tree depth) node (suc done) rest
 
 -- "After the last: 5": of a row a node left over, of packed bits a whole byte or a fill bit of 1
