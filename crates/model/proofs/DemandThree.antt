@@ -16,7 +16,7 @@ use Rattle.model.specs.Sets.{members-from}
 use Rattle.model.specs.Machine.{Call, next, call, calls, machine}
 use Rattle.model.specs.Run.{Result, run, begin, steps, Source, source-of, run-of}
 use Rattle.model.specs.Forms.{read-packed}
-use Rattle.model.specs.Demands.{lengths, Ran, Drawn, Broken, Demand-three}
+use Rattle.model.specs.Demands.{lengths, Ran, Drawn, Broken, Demand-three, Third-demand}
 use Rattle.model.proofs.Order.{and-true, Up}
 use Rattle.model.proofs.Denoted.{up-ascending, members-up, members-are}
 use Rattle.model.proofs.Plain.{machine-append, draws}
@@ -184,12 +184,15 @@ module _ (numbers ends expression : List ℕ) (n : Numbers numbers) (s : Source)
             ∙ machine-append (s .lists) (s .tree) cs₁ cs₂ bookmark
             ∙ rw (← join (s .lists) up (s .tree) bookmark low small cs₁ (parts .0), ← join (s .lists) up (s .tree) (one .bookmark) one-low small cs₂ (parts .1))
 
-    -- demand 3: for every list of calls, from any accepted bookmark, over any accepted lists and expression
-    pub demand-three : Demand-three numbers ends expression s bookmark codes ds
-    demand-three = record {
+    gathered : Demand-three numbers ends expression s bookmark codes ds
+    gathered = record {
       result = run (s .lists) (s .tree) bookmark (calls codes ds);
       ran = λ room h. ran bookmark codes ds room low paired h;
       plain = join (s .lists) up (s .tree) bookmark low small (calls codes ds) all-of-them;
       drawn = drawn (run (s .lists) (s .tree) bookmark (calls codes ds) .bookmark) (bookmark-low (s .lists) up (s .tree) bookmark low small (calls codes ds) all-of-them);
       broken = broken;
     }
+
+-- demand 3
+pub demand-three : Third-demand
+demand-three numbers ends expression n s is bookmark low codes ds nd paired = gathered numbers ends expression n s is bookmark low codes ds paired nd

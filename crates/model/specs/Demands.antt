@@ -7,11 +7,11 @@ use lib.Dec.{leb}
 use lib.ListN.{length, getD, take, drop, replicate}
 use Rattle.model.specs.declared.Reply.the-variants.{Member, Finished}
 use Rattle.model.specs.Outcome.{accepted}
-use Rattle.model.specs.Lists.{ascending}
+use Rattle.model.specs.Lists.{top, Numbers, ascending}
 use Rattle.model.specs.Expression.{Tree, leaf, difference, union, intersection, Members, one, more, size, depth, count}
 use Rattle.model.specs.Sets.{among, member, all-numbers}
 use Rattle.model.specs.Machine.{calls, machine}
-use Rattle.model.specs.Run.{Result, run, Source, run-of}
+use Rattle.model.specs.Run.{Result, run, Source, source-of, run-of}
 use Rattle.model.specs.Forms.{read-packed}
 use Rattle.model.specs.Delivery.{read-delivery}
 use Rattle.model.specs.Calls.{ends-from}
@@ -112,6 +112,14 @@ module _ (numbers ends expression : List ℕ) where
     pub plain : (result .replies, result .bookmark) ≡ machine (s .lists) (s .tree) bookmark (calls codes ds)
     pub drawn : Drawn s (result .bookmark)
     pub broken : (k : ℕ) → Broken s bookmark codes ds result k
+
+-- the demand: "For every list of next, at-or-past, past and check calls, unknown codes included, from any accepted
+-- bookmark and over any accepted lists and expression". 32-bit rows hold numbers; lists, expression and bookmark are
+-- accepted by the tests ahead of 13; 13 asks for as many numbers as codes
+abbrev pub Third-demand : Type 0
+Third-demand = (numbers ends expression : List ℕ) → Numbers numbers → (s : Source) → source-of numbers ends expression ≡ accepted s
+    → (bookmark : ℕ) → bookmark ≤ top → (codes ds : List ℕ) → Numbers ds → length codes ≡ length ds
+    → Demand-three numbers ends expression s bookmark codes ds
 
 -- a next for each member and one more; its number is ignored
 abbrev pub nexts : List ℕ → List ℕ
