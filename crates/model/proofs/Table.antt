@@ -3,7 +3,9 @@
 use mathlib.Core.Path.{_≡_, refl}
 use mathlib.Core.Bool.{true, false}
 use mathlib.Core.List.{List, [], _∷_, _++_, map}
-use Prim.Native.Nat.{ℕ, _-_}
+use Prim.Native.Nat.{ℕ, zero, suc, _-_}
+use native.Mathlib.Omega.{arith}
+use Rattle.model.specs.Lists.{Numbers}
 use lib.ListN.{replicate, length}
 use Rattle.model.specs.declared.Reply.{Reply}
 use Rattle.model.specs.declared.Reply.the-variants.{Member, Finished, Yes, No, Unknown}
@@ -408,6 +410,136 @@ edges = record {
   no-length = refl;
   short-expression = refl;
 }
+
+-- ---- orders: inputs to which two refusals apply, and the other side of a bound
+
+abbrev sevens : List ℕ
+sevens = 7 ∷ 7 ∷ []
+
+abbrev eights : ℕ → List ℕ
+eights zero = []
+eights (suc n) = eight-of-list-0 ++ eights n
+
+-- a union of 7, its first 5 members unions of 8, all others list 0: 48 nodes, 324 bits
+abbrev forty-eight : List ℕ
+forty-eight =
+    (0xB5 ∷ 0xC0 ∷ []) ++ replicate 6 0 ++ (0x2E ∷ []) ++ replicate 6 0 ++ (0x01 ∷ 0x70 ∷ []) ++ replicate 6 0 ++ (0x0B ∷ 0x80 ∷ []) ++ replicate 6 0 ++ (0x5C ∷ []) ++ replicate 9 0
+
+-- "At each node: 2, 3, 1": the row ends before a 49th node; before one at depth 13; before a 48th at depth 13. A field
+-- that lacks one bit. 48 nodes, packed and as a row, and depth 12, packed and as a row: only the lent row is too short.
+-- 128, 137 and 192 are unknown
+pub order-expressions :
+    pack-expression (136 ∷ (eights 5 ++ replicate 2 0)) 1 sevens ∷
+    pack-expression (133 ∷ (eights 4 ++ replicate 11 129)) 1 sevens ∷
+    pack-expression (133 ∷ (eights 3 ++ (135 ∷ replicate 7 0) ++ replicate 11 129)) 1 sevens ∷
+    unpack-expression (0x84 ∷ 0x00 ∷ []) 2 sevens ∷
+    pack-expression (134 ∷ (eights 4 ++ (135 ∷ replicate 7 0) ++ (64 ∷ 0 ∷ 0 ∷ []))) 1 sevens ∷
+    unpack-expression forty-eight 1 sevens ∷
+    pack-expression (replicate 11 193 ++ (0 ∷ [])) 1 sevens ∷
+    unpack-expression (0x84 ∷ 0x21 ∷ 0x08 ∷ 0x42 ∷ 0x10 ∷ 0x84 ∷ 0x20 ∷ 0x00 ∷ []) 1 sevens ∷
+    pack-expression (128 ∷ 0 ∷ []) 1 sevens ∷
+    pack-expression (137 ∷ replicate 9 0) 1 sevens ∷
+    pack-expression (192 ∷ 0 ∷ []) 1 sevens ∷ []
+    ≡
+    refusal 2 1 1 ∷ refusal 2 1 1 ∷ refusal 3 1 1 ∷ refusal 1 1 1 ∷ refusal 6 1 1 ∷ refusal 6 1 1 ∷ refusal 6 1 1 ∷ refusal 6 1 1 ∷ refusal 14 1 1 ∷
+    refusal 14 1 1 ∷ refusal 14 1 1 ∷ []
+unfolding computes
+order-expressions = refl
+
+-- the largest union, intersection and list number, read
+pub order-largest : unpack-expression (0xBF ∷ 0xC0 ∷ (replicate 5 0 ++ (0x07 ∷ 0xC0 ∷ replicate 6 0))) 32 (replicate 17 7)
+    ≡ record { number = 0; parts = 17 ∷ []; rows = (136 ∷ 200 ∷ (replicate 7 0 ++ (31 ∷ replicate 7 0))) ∷ [] }
+unfolding computes
+order-largest = refl
+
+-- "8 at the gap", before the next gap's bits run out; "6 for the numbers once its count is read", before 1, and over all
+-- lists; 7 before "6 for the ends row"; "finally 5"
+pub order-deliveries :
+    decode-delivery (0x04 ∷ 0x00 ∷ 0x0F ∷ 0xFF ∷ 0xFF ∷ 0xFF ∷ 0xFC ∷ 0x40 ∷ []) (replicate 3 7) (7 ∷ []) ∷
+    decode-delivery (0x04 ∷ 0x00 ∷ 0x0C ∷ []) sevens sevens ∷
+    decode-delivery (0x08 ∷ 0x00 ∷ 0x04 ∷ 0x00 ∷ 0x00 ∷ 0x00 ∷ 0x04 ∷ 0x00 ∷ 0x04 ∷ []) (7 ∷ []) sevens ∷
+    decode-delivery (0x84 ∷ []) sevens sevens ∷
+    decode-delivery (0x04 ∷ 0x00 ∷ 0x01 ∷ []) sevens sevens ∷
+    encode-delivery [] (1 ∷ replicate 32 0) sevens ∷
+    encode-delivery (5 ∷ 5 ∷ []) (2 ∷ 1 ∷ []) sevens ∷ []
+    ≡
+    refuses 8 2 (replicate 3 7 ∷ (7 ∷ []) ∷ []) ∷
+    refusal 6 2 2 ∷
+    refuses 6 2 ((7 ∷ []) ∷ sevens ∷ []) ∷
+    refusal 7 2 2 ∷
+    refusal 5 2 2 ∷
+    refusal 7 1 1 ∷
+    refusal 10 1 1 ∷ []
+unfolding computes
+order-deliveries = refl
+
+-- a run: "lists [..], the packed expression [..], bookmark (12), row lengths (13)"; more numbers than codes; a list number
+-- that is not there; and one empty list, drawn
+pub order-runs :
+    run-call (5 ∷ 5 ∷ []) (2 ∷ []) [] 0 [] [] sevens ∷
+    run-call (5 ∷ []) (1 ∷ []) [] 4294967297 [] [] sevens ∷
+    run-call (5 ∷ []) (1 ∷ []) (0x00 ∷ []) 4294967297 (0 ∷ []) [] sevens ∷
+    run-call (5 ∷ []) (1 ∷ []) (0x00 ∷ []) 0 [] (0 ∷ []) sevens ∷
+    run-call (5 ∷ []) (1 ∷ []) (0x02 ∷ []) 0 [] [] sevens ∷
+    run-call [] (0 ∷ []) (0x00 ∷ []) 0 (0 ∷ []) (0 ∷ []) sevens ∷ []
+    ≡
+    refusal 11 50 1 ∷ refusal 1 50 1 ∷ refusal 12 50 1 ∷ refusal 13 50 1 ∷ refusal 4 50 1 ∷
+    record { number = 0; parts = replicate 49 0 ++ (4294967296 ∷ []); rows = (4294967298 ∷ 7 ∷ []) ∷ [] } ∷ []
+unfolding computes
+order-runs = refl
+
+-- where the replies are the same and the moves are not: "A union checks in order until a yes", and a check below the floor
+-- moves nothing; "an intersection until a no", and a difference its second "on yes" only; the higher answer is the candidate
+abbrev pub order-rows : List Row
+order-rows =
+    record {
+      lists = (1 ∷ 5 ∷ []) ∷ (1 ∷ 5 ∷ []) ∷ [];
+      tree = union (more (leaf 0) (one (leaf 1)));
+      bookmark = 0;
+      calls = check 5 ∷ check 2 ∷ [];
+      replies = Yes ∷ No ∷ [];
+      last = 5;
+      moves = 1;
+      places = 0 ∷ 1 ∷ [];
+    } ∷
+    record {
+      lists = (1 ∷ 6 ∷ []) ∷ (1 ∷ 5 ∷ []) ∷ [];
+      tree = union (more (intersection (more (leaf 0) (one (leaf 1)))) (one (difference (leaf 0) (leaf 1))));
+      bookmark = 0;
+      calls = check 5 ∷ [];
+      replies = No ∷ [];
+      last = 5;
+      moves = 2;
+      places = 0 ∷ 0 ∷ 1 ∷ 0 ∷ 0 ∷ 1 ∷ [];
+    } ∷
+    record {
+      lists = (1 ∷ 5 ∷ []) ∷ (1 ∷ 3 ∷ 7 ∷ []) ∷ (9 ∷ []) ∷ [];
+      tree = intersection (more (leaf 0) (more (leaf 1) (one (leaf 2))));
+      bookmark = 0;
+      calls = next ∷ [];
+      replies = Finished ∷ [];
+      last = 4294967296;
+      moves = 2;
+      places = 0 ∷ 2 ∷ [];
+    } ∷ []
+
+pub order-moves : map computed order-rows ≡ map stated order-rows
+unfolding computes
+order-moves = refl
+
+-- the program: its whole size first, 65,536 bytes; "then the delivery, then the expression"; 4,096 numbers
+-- and 32 lists are read on until bits run out, 4,097 numbers are not; a list number that is not there
+pub order-listings :
+    map listing (replicate 65536 0 ∷ (0x00 ∷ 0x00 ∷ []) ∷ (0x01 ∷ 0x00 ∷ 0x04 ∷ 0x40 ∷ 0x00 ∷ []) ∷ (0x01 ∷ 0x00 ∷ 0x04 ∷ 0x40 ∷ 0x04 ∷ []) ∷
+    (0x01 ∷ 0x00 ∷ 0x80 ∷ []) ∷ (0x01 ∷ 0x02 ∷ 0x04 ∷ 0x00 ∷ 0x00 ∷ []) ∷ [])
+    ≡ map refused (6 ∷ 7 ∷ 1 ∷ 6 ∷ 1 ∷ 4 ∷ [])
+unfolding computes
+order-listings = refl
+
+-- "A number is 0 to 4,294,967,295"
+pub order-numbers : Numbers (4294967295 ∷ [])
+order-numbers zero = omega arith
+order-numbers (suc i) = omega arith
 
 -- the program's stored example: 01 00 04 00 0C 00 00 00 08 08
 pub example : listing (0x01 ∷ 0x00 ∷ 0x04 ∷ 0x00 ∷ 0x0C ∷ 0x00 ∷ 0x00 ∷ 0x00 ∷ 0x08 ∷ 0x08 ∷ []) ≡ accepted (record { members = 2 ∷ 3 ∷ 5 ∷ []; moves = 3 })

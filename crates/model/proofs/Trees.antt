@@ -34,19 +34,6 @@ unfolding count
 count-pos (one t) = omega arith
 count-pos (more t ts) = omega arith
 
-mutual
-  unfolding depth
-
-  depth-pos : (t : Tree) → 1 ≤ depth t
-  depth-pos (leaf k) = omega arith
-  depth-pos (difference s t) = omega arith
-  depth-pos (union ts) = omega arith
-  depth-pos (intersection ts) = omega arith
-
-  depths-pos : (ts : Members) → 1 ≤ depths ts
-  depths-pos (one t) = depth-pos t
-  depths-pos (more t ts) = omega (arith, depth-pos t)
-
 module _ {A : Type 0} (put : Node → List A) where
   -- one node after another
   unfoldable puts : List Node → List A
