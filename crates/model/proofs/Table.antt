@@ -446,9 +446,15 @@ pub order-expressions :
 unfolding computes
 order-expressions = refl
 
--- the largest union, intersection and list number, read
-pub order-largest : unpack-expression (0xBF ∷ 0xC0 ∷ (replicate 5 0 ++ (0x07 ∷ 0xC0 ∷ replicate 6 0))) 32 (replicate 17 7)
-    ≡ record { number = 0; parts = 17 ∷ []; rows = (136 ∷ 200 ∷ (replicate 7 0 ++ (31 ∷ replicate 7 0))) ∷ [] }
+-- the largest union, intersection and list number: a union of 8, its first an intersection of 8 that begins with list 0 and
+-- ends with list 31, written and read
+abbrev largest-row : List ℕ
+largest-row = 136 ∷ 200 ∷ (replicate 7 0 ++ (31 ∷ replicate 7 0))
+
+abbrev largest-packed : List ℕ
+largest-packed = 0xBF ∷ 0xC0 ∷ (replicate 5 0 ++ (0x07 ∷ 0xC0 ∷ replicate 6 0))
+
+pub order-largest : pack-expression largest-row 32 (replicate 15 7) ∷ unpack-expression largest-packed 32 (replicate 17 7) ∷ [] ≡ gives (15 ∷ []) (largest-packed ∷ []) ∷ gives (17 ∷ []) (largest-row ∷ []) ∷ []
 unfolding computes
 order-largest = refl
 
@@ -540,6 +546,11 @@ order-listings = refl
 pub order-numbers : Numbers (4294967295 ∷ [])
 order-numbers zero = omega arith
 order-numbers (suc i) = omega arith
+
+-- 65,535 bytes are read: an expression of no bytes, and a delivery of 0 lists, which is tested first
+pub largest-input : listing (replicate 65535 0) ≡ refused 7
+unfolding computes
+largest-input = refl
 
 -- the program's stored example: 01 00 04 00 0C 00 00 00 08 08
 pub example : listing (0x01 ∷ 0x00 ∷ 0x04 ∷ 0x00 ∷ 0x0C ∷ 0x00 ∷ 0x00 ∷ 0x00 ∷ 0x08 ∷ 0x08 ∷ []) ≡ accepted (record { members = 2 ∷ 3 ∷ 5 ∷ []; moves = 3 })
