@@ -227,21 +227,21 @@ field-lt w bs r e =
     let l : length (take w bs) ≡ w = omega (arith, length-take w bs, leb-true w (length bs) (a .0)) in
     rw (← q) (rw l at (value-lt (take w bs)))
 
-few-rest : (w : ℕ) (of : ℕ → Node) → ((n : ℕ) → n < 2 ^ w → Few (of n)) → (bs : List Bool) (r : Node × List Bool) → take-rest w of bs ≡ accepted r → Few (r .0)
+few-rest : (w : ℕ) (of : ℕ → Node) → ((n : ℕ) → n < 2 ^ w → Few (of n)) → (bs : List Bool) (r : Node × List Bool) → take-rest take-field w of bs ≡ accepted r → Few (r .0)
 unfolding take-rest
 few-rest w of f bs r e =
     let a = bound (take-field w bs) _ r e in
     let q : (of (a .got .0), a .got .1) ≡ r = cc (a .rest) in
     rw (← q) (f (a .got .0) (field-lt w bs (a .got) (a .first)))
 
-few-kind : (kind : ℕ) (bs : List Bool) (r : Node × List Bool) → take-kind kind bs ≡ accepted r → Few (r .0)
+few-kind : (kind : ℕ) (bs : List Bool) (r : Node × List Bool) → take-kind take-field kind bs ≡ accepted r → Few (r .0)
 unfolding take-kind
 few-kind zero bs r e = few-rest 5 Leaf (λ n h. tt) bs r e
 few-kind (suc zero) bs r e = let q : (Difference, bs) ≡ r = cc in rw (← q) tt
 few-kind (suc (suc zero)) bs r e = few-rest 3 (λ n. Union (n + 1)) (λ n h. (omega arith, omega arith)) bs r e
 few-kind (suc (suc (suc kind))) bs r e = few-rest 3 (λ n. Intersection (n + 1)) (λ n h. (omega arith, omega arith)) bs r e
 
-pub few-packed : (s : List Bool) (r : Node × List Bool) → take-node s ≡ accepted r → Few (r .0)
+pub few-packed : (s : List Bool) (r : Node × List Bool) → take-node take-field s ≡ accepted r → Few (r .0)
 unfolding take-node
 few-packed s r e = let a = bound (take-field 2 s) _ r e in few-kind (a .got .0) (a .got .1) r (a .rest)
 
@@ -257,7 +257,7 @@ row-reads lists bs t e =
 pub packed-reads : (lists : ℕ) (bs : List ℕ) (t : Tree) → read-packed lists bs ≡ accepted t → Expression lists t
 unfolding read-packed
 packed-reads lists bs t e =
-    let a = bound (read-tree lists take-node 12 0 (bits bs)) _ t e in
+    let a = bound (read-tree lists (take-node take-field) 12 0 (bits bs)) _ t e in
     let b = required 5 (only-fill (a .got .2)) _ t (a .rest) in
     let q : a .got .0 ≡ t = cc (b .1) in
-    rw (← q) (expression-read lists take-node few-packed (bits bs) (a .got) (a .first))
+    rw (← q) (expression-read lists (take-node take-field) few-packed (bits bs) (a .got) (a .first))

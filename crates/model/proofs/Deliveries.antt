@@ -52,46 +52,46 @@ width-is m h = width-from-is 31 1 m (omega arith) (λ k h₁ h₂. absurd (omega
 
 -- ---- the numbers of a list that reads ascend
 
-gaps-up : (w n last : ℕ) (bs : List Bool) (r : List ℕ × List Bool) → read-gaps w n last bs ≡ accepted r → Up (suc last) (r .0)
+gaps-up : (w n last : ℕ) (bs : List Bool) (r : List ℕ × List Bool) → read-gaps take-field w n last bs ≡ accepted r → Up (suc last) (r .0)
 unfolding read-gaps
 gaps-up w zero last bs r e = let q : ([], bs) ≡ r = cc in rw (← q) tt
 gaps-up w (suc n) last bs r e =
     let a = bound (take-field w bs) _ r e in
     let x : ℕ = last + a .got .0 + 1 in
     let b = required 8 (ltb x top) _ r (a .rest) in
-    let c = bound (read-gaps w n x (a .got .1)) _ r (b .1) in
+    let c = bound (read-gaps take-field w n x (a .got .1)) _ r (b .1) in
     let q : (x ∷ c .got .0, c .got .1) ≡ r = cc (c .rest) in
     rw (← q) (omega arith, ltb-true x top (b .0), gaps-up w n x (a .got .1) (c .got) (c .first))
 
-later-up : (n first : ℕ) (bs : List Bool) (r : List ℕ × List Bool) → read-later n first bs ≡ accepted r → Up (suc first) (r .0)
+later-up : (n first : ℕ) (bs : List Bool) (r : List ℕ × List Bool) → read-later take-field n first bs ≡ accepted r → Up (suc first) (r .0)
 unfolding read-later
 later-up zero first bs r e = let q : ([], bs) ≡ r = cc in rw (← q) tt
 later-up (suc n) first bs r e =
     let a = bound (take-field 5 bs) _ r e in
-    let b = bound (read-gaps (a .got .0 + 1) (suc n) first (a .got .1)) _ r (a .rest) in
+    let b = bound (read-gaps take-field (a .got .0 + 1) (suc n) first (a .got .1)) _ r (a .rest) in
     let c = required 9 (eqb (a .got .0 + 1) (width (largest-gap first (b .got .0)))) _ r (b .rest) in
     let q : (b .got .0, b .got .1) ≡ r = cc (c .1) in
     rw (← q) (gaps-up (a .got .0 + 1) (suc n) first (a .got .1) (b .got) (b .first))
 
-body-up : (n : ℕ) (bs : List Bool) (r : List ℕ × List Bool) → read-body n bs ≡ accepted r → Up 0 (r .0)
+body-up : (n : ℕ) (bs : List Bool) (r : List ℕ × List Bool) → read-body take-field n bs ≡ accepted r → Up 0 (r .0)
 unfolding read-body
 body-up zero bs r e = let q : ([], bs) ≡ r = cc in rw (← q) tt
 body-up (suc n) bs r e =
     let a = bound (take-field 32 bs) _ r e in
-    let b = bound (read-later n (a .got .0) (a .got .1)) _ r (a .rest) in
+    let b = bound (read-later take-field n (a .got .0) (a .got .1)) _ r (a .rest) in
     let q : (a .got .0 ∷ b .got .0, b .got .1) ≡ r = cc (b .rest) in
     rw (← q) (omega arith, field-lt 32 bs (a .got) (a .first), later-up n (a .got .0) (a .got .1) (b .got) (b .first))
 
 -- ---- what reads was written
 
-gaps-was : (w n last : ℕ) (bs : List Bool) (r : List ℕ × List Bool) → read-gaps w n last bs ≡ accepted r → (bs ≡ gap-bits w last (r .0) ++ r .1) × (length (r .0) ≡ n)
+gaps-was : (w n last : ℕ) (bs : List Bool) (r : List ℕ × List Bool) → read-gaps take-field w n last bs ≡ accepted r → (bs ≡ gap-bits w last (r .0) ++ r .1) × (length (r .0) ≡ n)
 unfolding read-gaps gap-bits
 gaps-was w zero last bs r e = let q : ([], bs) ≡ r = accepted-same e in rw (← q) (refl, refl)
 gaps-was w (suc n) last bs r e =
     let a = bound (take-field w bs) _ r e in
     let x : ℕ = last + a .got .0 + 1 in
     let b = required 8 (ltb x top) _ r (a .rest) in
-    let c = bound (read-gaps w n x (a .got .1)) _ r (b .1) in
+    let c = bound (read-gaps take-field w n x (a .got .1)) _ r (b .1) in
     let y = gaps-was w n x (a .got .1) (c .got) (c .first) in
     let g : x - last - 1 ≡ a .got .0 = omega arith in
     let q : (x ∷ c .got .0, c .got .1) ≡ r = accepted-same (c .rest) in
@@ -100,12 +100,12 @@ gaps-was w (suc n) last bs r e =
       ap suc (y .1),
     )
 
-later-was : (n first : ℕ) (bs : List Bool) (r : List ℕ × List Bool) → read-later n first bs ≡ accepted r → (bs ≡ later-bits first (r .0) ++ r .1) × (length (r .0) ≡ n)
+later-was : (n first : ℕ) (bs : List Bool) (r : List ℕ × List Bool) → read-later take-field n first bs ≡ accepted r → (bs ≡ later-bits first (r .0) ++ r .1) × (length (r .0) ≡ n)
 unfolding read-later later-bits
 later-was zero first bs r e = let q : ([], bs) ≡ r = accepted-same e in rw (← q) (refl, refl)
 later-was (suc n) first bs r e =
     let a = bound (take-field 5 bs) _ r e in
-    let b = bound (read-gaps (a .got .0 + 1) (suc n) first (a .got .1)) _ r (a .rest) in
+    let b = bound (read-gaps take-field (a .got .0 + 1) (suc n) first (a .got .1)) _ r (a .rest) in
     let c = required 9 (eqb (a .got .0 + 1) (width (largest-gap first (b .got .0)))) _ r (b .rest) in
     let y = gaps-was (a .got .0 + 1) (suc n) first (a .got .1) (b .got) (b .first) in
     let q : (b .got .0, b .got .1) ≡ r = accepted-same (c .1) in
@@ -123,12 +123,12 @@ later-was (suc n) first bs r e =
         let k : less ≡ w - 1 = omega arith in
         ap₂ (λ (u v : ℕ). field 5 u ++ (gap-bits v first (x ∷ xs) ++ rest)) k h ∙ sym (append-assoc (field 5 (w - 1)) (gap-bits w first (x ∷ xs)) rest)
 
-body-was : (n : ℕ) (bs : List Bool) (r : List ℕ × List Bool) → read-body n bs ≡ accepted r → (bs ≡ body-bits (r .0) ++ r .1) × (length (r .0) ≡ n)
+body-was : (n : ℕ) (bs : List Bool) (r : List ℕ × List Bool) → read-body take-field n bs ≡ accepted r → (bs ≡ body-bits (r .0) ++ r .1) × (length (r .0) ≡ n)
 unfolding read-body body-bits
 body-was zero bs r e = let q : ([], bs) ≡ r = accepted-same e in rw (← q) (refl, refl)
 body-was (suc n) bs r e =
     let a = bound (take-field 32 bs) _ r e in
-    let b = bound (read-later n (a .got .0) (a .got .1)) _ r (a .rest) in
+    let b = bound (read-later take-field n (a .got .0) (a .got .1)) _ r (a .rest) in
     let y = later-was n (a .got .0) (a .got .1) (b .got) (b .first) in
     let q : (a .got .0 ∷ b .got .0, b .got .1) ≡ r = accepted-same (b .rest) in
     rw (← q) (
@@ -136,7 +136,7 @@ body-was (suc n) bs r e =
       ap suc (y .1),
     )
 
-list-was : (room : ℕ) (bs : List Bool) (r : List ℕ × List Bool) → read-list room bs ≡ accepted r → bs ≡ list-bits (r .0) ++ r .1
+list-was : (room : ℕ) (bs : List Bool) (r : List ℕ × List Bool) → read-list take-field room bs ≡ accepted r → bs ≡ list-bits (r .0) ++ r .1
 unfolding read-list list-bits
 list-was room bs r e =
     let a = bound (take-field 16 bs) _ r e in
@@ -144,12 +144,12 @@ list-was room bs r e =
     let y = body-was (a .got .0) (a .got .1) r (b .1) in
     was-field 16 bs (a .got) (a .first) ∙ ap₂ (λ (k : ℕ) (l : List Bool). field 16 k ++ l) (sym (y .1)) (y .0) ∙ sym (append-assoc (field 16 (length (r .0))) (body-bits (r .0)) (r .1))
 
-lists-was : (n room : ℕ) (bs : List Bool) (r : List (List ℕ) × List Bool) → read-lists n room bs ≡ accepted r → (bs ≡ lists-bits (r .0) ++ r .1) × (length (r .0) ≡ n)
+lists-was : (n room : ℕ) (bs : List Bool) (r : List (List ℕ) × List Bool) → read-lists take-field n room bs ≡ accepted r → (bs ≡ lists-bits (r .0) ++ r .1) × (length (r .0) ≡ n)
 unfolding read-lists lists-bits
 lists-was zero room bs r e = let q : ([], bs) ≡ r = accepted-same e in rw (← q) (refl, refl)
 lists-was (suc n) room bs r e =
-    let a = bound (read-list room bs) _ r e in
-    let b = bound (read-lists n (room - length (a .got .0)) (a .got .1)) _ r (a .rest) in
+    let a = bound (read-list take-field room bs) _ r e in
+    let b = bound (read-lists take-field n (room - length (a .got .0)) (a .got .1)) _ r (a .rest) in
     let y = lists-was n (room - length (a .got .0)) (a .got .1) (b .got) (b .first) in
     let q : (a .got .0 ∷ b .got .0, b .got .1) ≡ r = accepted-same (b .rest) in
     rw (← q) (
@@ -164,7 +164,7 @@ delivery-same numbers-room ends-room bs ls h e =
     let a = bound (take-field 6 (bits bs)) _ ls e in
     let b = required 7 (count-holds (a .got .0)) _ ls (a .rest) in
     let c = required 6 (leb (a .got .0) ends-room) _ ls (b .1) in
-    let d = bound (read-lists (a .got .0) numbers-room (a .got .1)) _ ls (c .1) in
+    let d = bound (read-lists take-field (a .got .0) numbers-room (a .got .1)) _ ls (c .1) in
     let f = required 5 (only-fill (d .got .1)) _ ls (d .rest) in
     let y = lists-was (a .got .0) numbers-room (a .got .1) (d .got) (d .first) in
     let q : d .got .0 ≡ ls = accepted-same (f .1) in
@@ -183,7 +183,7 @@ storable-up [] s k = tt
 storable-up (l ∷ ls) s zero = s .0 .0
 storable-up (l ∷ ls) s (suc k) = storable-up ls (s .1) k
 
-list-holds : (room : ℕ) (bs : List Bool) (r : List ℕ × List Bool) → read-list room bs ≡ accepted r → (Up 0 (r .0) × (length (r .0) ≤ 65535)) × (length (r .0) ≤ room)
+list-holds : (room : ℕ) (bs : List Bool) (r : List ℕ × List Bool) → read-list take-field room bs ≡ accepted r → (Up 0 (r .0) × (length (r .0) ≤ 65535)) × (length (r .0) ≤ room)
 unfolding read-list
 list-holds room bs r e =
     let a = bound (take-field 16 bs) _ r e in
@@ -191,12 +191,12 @@ list-holds room bs r e =
     let n = body-was (a .got .0) (a .got .1) r (b .1) .1 in
     ((body-up (a .got .0) (a .got .1) r (b .1), omega (arith, n, field-lt 16 bs (a .got) (a .first))), omega (arith, n, leb-true (a .got .0) room (b .0)))
 
-lists-hold : (n room : ℕ) (bs : List Bool) (r : List (List ℕ) × List Bool) → read-lists n room bs ≡ accepted r → Storable (r .0) × (length (all-numbers (r .0)) ≤ room)
+lists-hold : (n room : ℕ) (bs : List Bool) (r : List (List ℕ) × List Bool) → read-lists take-field n room bs ≡ accepted r → Storable (r .0) × (length (all-numbers (r .0)) ≤ room)
 unfolding read-lists all-numbers
 lists-hold zero room bs r e = let q : ([], bs) ≡ r = accepted-same e in rw (← q) (tt, omega arith)
 lists-hold (suc n) room bs r e =
-    let a = bound (read-list room bs) _ r e in
-    let b = bound (read-lists n (room - length (a .got .0)) (a .got .1)) _ r (a .rest) in
+    let a = bound (read-list take-field room bs) _ r e in
+    let b = bound (read-lists take-field n (room - length (a .got .0)) (a .got .1)) _ r (a .rest) in
     let x = list-holds room bs (a .got) (a .first) in
     let y = lists-hold n (room - length (a .got .0)) (a .got .1) (b .got) (b .first) in
     let q : (a .got .0 ∷ b .got .0, b .got .1) ≡ r = accepted-same (b .rest) in
@@ -215,7 +215,7 @@ delivery-holds numbers-room ends-room bs ls e =
     let a = bound (take-field 6 (bits bs)) _ ls e in
     let b = required 7 (count-holds (a .got .0)) _ ls (a .rest) in
     let c = required 6 (leb (a .got .0) ends-room) _ ls (b .1) in
-    let d = bound (read-lists (a .got .0) numbers-room (a .got .1)) _ ls (c .1) in
+    let d = bound (read-lists take-field (a .got .0) numbers-room (a .got .1)) _ ls (c .1) in
     let f = required 5 (only-fill (d .got .1)) _ ls (d .rest) in
     let x = lists-hold (a .got .0) numbers-room (a .got .1) (d .got) (d .first) in
     let n = lists-was (a .got .0) numbers-room (a .got .1) (d .got) (d .first) .1 in
@@ -228,7 +228,7 @@ delivery-holds numbers-room ends-room bs ls e =
 abbrev Gaps-fit : ℕ → ℕ → List ℕ → Type 0
 Gaps-fit w last xs = largest-gap last xs < 2 ^ w
 
-gaps-back : (w last : ℕ) (xs : List ℕ) (rest : List Bool) → Up (suc last) xs → Gaps-fit w last xs → read-gaps w (length xs) last (gap-bits w last xs ++ rest) ≡ accepted (xs, rest)
+gaps-back : (w last : ℕ) (xs : List ℕ) (rest : List Bool) → Up (suc last) xs → Gaps-fit w last xs → read-gaps take-field w (length xs) last (gap-bits w last xs ++ rest) ≡ accepted (xs, rest)
 unfolding read-gaps gap-bits largest-gap
 gaps-back w last [] rest u f = refl
 gaps-back w last (x ∷ xs) rest u f =
@@ -247,7 +247,7 @@ width-small last xs u =
     let w = width-is (largest-gap last xs) s in
     (w .holds, w .one, w .least 32 (omega arith) s)
 
-later-back : (x : ℕ) (xs : List ℕ) (rest : List Bool) → Up (suc x) xs → read-later (length xs) x (later-bits x xs ++ rest) ≡ accepted (xs, rest)
+later-back : (x : ℕ) (xs : List ℕ) (rest : List Bool) → Up (suc x) xs → read-later take-field (length xs) x (later-bits x xs ++ rest) ≡ accepted (xs, rest)
 unfolding read-later later-bits
 later-back x [] rest u = refl
 later-back x (y ∷ ys) rest u =
@@ -262,17 +262,17 @@ later-back x (y ∷ ys) rest u =
       eq-eqb w w refl,
     )
 
-body-back : (l : List ℕ) (rest : List Bool) → Up 0 l → read-body (length l) (body-bits l ++ rest) ≡ accepted (l, rest)
+body-back : (l : List ℕ) (rest : List Bool) → Up 0 l → read-body take-field (length l) (body-bits l ++ rest) ≡ accepted (l, rest)
 unfolding read-body body-bits
 body-back [] rest u = refl
 body-back (x ∷ xs) rest u = rw (append-assoc (field 32 x) (later-bits x xs) rest, taken 32 x (later-bits x xs ++ rest) (u .1), later-back x xs rest (u .2))
 
-list-back : (room : ℕ) (l : List ℕ) (rest : List Bool) → Up 0 l → length l ≤ room → length l ≤ 65535 → read-list room (list-bits l ++ rest) ≡ accepted (l, rest)
+list-back : (room : ℕ) (l : List ℕ) (rest : List Bool) → Up 0 l → length l ≤ room → length l ≤ 65535 → read-list take-field room (list-bits l ++ rest) ≡ accepted (l, rest)
 unfolding read-list list-bits
 list-back room l rest u h₁ h₂ =
     rw (append-assoc (field 16 (length l)) (body-bits l) rest, taken 16 (length l) (body-bits l ++ rest) (omega arith), le-leb (length l) room h₁, body-back l rest u)
 
-lists-back : (room : ℕ) (ls : List (List ℕ)) (rest : List Bool) → Storable ls → length (all-numbers ls) ≤ room → read-lists (length ls) room (lists-bits ls ++ rest) ≡ accepted (ls, rest)
+lists-back : (room : ℕ) (ls : List (List ℕ)) (rest : List Bool) → Storable ls → length (all-numbers ls) ≤ room → read-lists take-field (length ls) room (lists-bits ls ++ rest) ≡ accepted (ls, rest)
 unfolding read-lists lists-bits all-numbers
 lists-back room [] rest s h = refl
 lists-back room (l ∷ ls) rest s h =

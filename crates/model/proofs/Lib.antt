@@ -17,4 +17,5 @@ pub mod Listing
 pub mod Bits
 pub mod Trees
 pub mod Shape
+pub mod Sources
 pub mod Replies

@@ -229,7 +229,7 @@ unfolding puts packed-nodes
 packed-puts [] = refl
 packed-puts (n ∷ ns) = ap (λ (l : List Bool). packed-node n ++ l) (packed-puts ns)
 
-node-back : (n : Node) (rest : List Bool) → Writable n → take-node (packed-node n ++ rest) ≡ accepted (n, rest)
+node-back : (n : Node) (rest : List Bool) → Writable n → take-node take-field (packed-node n ++ rest) ≡ accepted (n, rest)
 unfolding take-node take-kind take-rest packed-node
 node-back (Leaf k) rest h = rw (append-assoc (field 2 0) (field 5 k) rest, taken 2 0 (field 5 k ++ rest) (omega arith), taken 5 k rest h)
 node-back Difference rest h = rw (taken 2 1 rest (omega arith))
@@ -240,14 +240,14 @@ node-back (Intersection n) rest h =
 
 -- the rest of a node, behind its kind
 rest-was : (kind w : ℕ) (of : ℕ → Node) → ((n : ℕ) → packed-node (of n) ≡ field 2 kind ++ field w n) → (s bs : List Bool) (r : Node × List Bool) → s ≡ field 2 kind ++ bs
-    → take-rest w of bs ≡ accepted r → s ≡ packed-node (r .0) ++ r .1
+    → take-rest take-field w of bs ≡ accepted r → s ≡ packed-node (r .0) ++ r .1
 unfolding take-rest
 rest-was kind w of p s bs r f e =
     let a = bound (take-field w bs) _ r e in
     let q : (of (a .got .0), a .got .1) ≡ r = accepted-same (a .rest) in
     rw (← q, p (a .got .0)) (f ∙ ap (λ (l : List Bool). field 2 kind ++ l) (was-field w bs (a .got) (a .first)) ∙ sym (append-assoc (field 2 kind) (field w (a .got .0)) (a .got .1)))
 
-kind-was : (kind : ℕ) → kind < 4 → (s bs : List Bool) (r : Node × List Bool) → s ≡ field 2 kind ++ bs → take-kind kind bs ≡ accepted r → s ≡ packed-node (r .0) ++ r .1
+kind-was : (kind : ℕ) → kind < 4 → (s bs : List Bool) (r : Node × List Bool) → s ≡ field 2 kind ++ bs → take-kind take-field kind bs ≡ accepted r → s ≡ packed-node (r .0) ++ r .1
 unfolding take-kind packed-node
 kind-was zero h s bs r f e = rest-was 0 5 Leaf (λ n. refl) s bs r f e
 kind-was (suc zero) h s bs r f e = let q : (Difference, bs) ≡ r = accepted-same e in rw (← q) f
@@ -255,7 +255,7 @@ kind-was (suc (suc zero)) h s bs r f e = rest-was 2 3 (λ n. Union (n + 1)) (λ 
 kind-was (suc (suc (suc zero))) h s bs r f e = rest-was 3 3 (λ n. Intersection (n + 1)) (λ n. ap (λ (k : ℕ). field 2 3 ++ field 3 k) (omega arith)) s bs r f e
 kind-was (suc (suc (suc (suc kind)))) h s bs r f e = absurd (omega arith)
 
-node-was : (s : List Bool) (r : Node × List Bool) → take-node s ≡ accepted r → s ≡ packed-node (r .0) ++ r .1
+node-was : (s : List Bool) (r : Node × List Bool) → take-node take-field s ≡ accepted r → s ≡ packed-node (r .0) ++ r .1
 unfolding take-node
 node-was s r e =
     let a = bound (take-field 2 s) _ r e in
@@ -267,13 +267,13 @@ unfolding read-packed packed
 packed-written lists t h x =
     let f = filled (packed-nodes (nodes t)) in
     let e : bits (bytes (packed-nodes (nodes t))) ≡ puts packed-node (nodes t) ++ replicate (f .zeros-behind) false = f .are ∙ ap (λ (l : List Bool). l ++ replicate (f .zeros-behind) false) (packed-puts (nodes t)) in
-    rw (e, reads-back packed-node lists take-node h node-back t 12 0 (replicate (f .zeros-behind) false) (x .levels) (omega (arith, x .nodes)) (x .named), fill-only (f .zeros-behind) (f .few))
+    rw (e, reads-back packed-node lists (take-node take-field) h node-back t 12 0 (replicate (f .zeros-behind) false) (x .levels) (omega (arith, x .nodes)) (x .named), fill-only (f .zeros-behind) (f .few))
 
 -- and bytes that read are the bytes of what they read as
 pub packed-same : (lists : ℕ) (bs : List ℕ) (t : Tree) → Bytes bs → read-packed lists bs ≡ accepted t → packed t ≡ bs
 unfolding read-packed packed
 packed-same lists bs t hb e =
-    let a = bound (read-tree lists take-node 12 0 (bits bs)) _ t e in
+    let a = bound (read-tree lists (take-node take-field) 12 0 (bits bs)) _ t e in
     let b = required 5 (only-fill (a .got .2)) _ t (a .rest) in
-    let w : bits bs ≡ puts packed-node (nodes (a .got .0)) ++ a .got .2 = was-written packed-node lists take-node node-was few-packed 12 0 (bits bs) (a .got) (a .first) in
+    let w : bits bs ≡ puts packed-node (nodes (a .got .0)) ++ a .got .2 = was-written packed-node lists (take-node take-field) node-was few-packed 12 0 (bits bs) (a .got) (a .first) in
     ap (λ (u : Tree). bytes (packed-nodes (nodes u))) (sym (accepted-same (b .1))) ∙ ap bytes (packed-puts (nodes (a .got .0))) ∙ bytes-are bs hb (puts packed-node (nodes (a .got .0))) (a .got .2) w (b .0)

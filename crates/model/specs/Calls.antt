@@ -4,6 +4,8 @@ use mathlib.Core.List.{List, [], _∷_, _++_, map}
 use Prim.Native.Nat.{ℕ, _+_}
 use lib.Dec.{leb}
 use lib.ListN.{length}
+use Rattle.model.specs.declared.Written.{Written}
+use Rattle.model.specs.declared.Delivered.{Delivered}
 use Rattle.model.specs.Outcome.{accepted, _>>=_, _>>_, require, Sent, sent}
 use Rattle.model.specs.Lists.{count-holds, lists-of}
 use Rattle.model.specs.Expression.{size}
@@ -12,6 +14,13 @@ use Rattle.model.specs.Machine.{encode}
 use Rattle.model.specs.Run.{run-of}
 use Rattle.model.specs.Forms.{row, packed, read-row, read-packed}
 use Rattle.model.specs.Delivery.{delivery, read-delivery}
+
+-- what a call sends back, from the struct that it hands back and its lent rows as it leaves them
+abbrev pub written : Written → List ℕ → Sent
+written r row = record { number = r .number; parts = r .count ∷ []; rows = row ∷ [] }
+
+abbrev pub delivered : Delivered → List ℕ → List ℕ → Sent
+delivered r numbers ends = record { number = r .number; parts = r .lists ∷ r .numbers ∷ []; rows = numbers ∷ ends ∷ [] }
 
 -- one end for each list, from lists that start at `start`
 unfoldable pub ends-from : ℕ → List (List ℕ) → List ℕ

@@ -50,46 +50,48 @@ lists-bits (l ∷ ls) = list-bits l ++ lists-bits ls
 unfoldable pub delivery : List (List ℕ) → List ℕ
 delivery ls = bytes (field 6 (length ls) ++ lists-bits ls)
 
--- read: the n numbers behind `last`, 8 at the gap that passes 4,294,967,295
-unfoldable pub read-gaps : ℕ → ℕ → ℕ → List Bool → Outcome (List ℕ × List Bool)
-read-gaps w zero last bs = accepted ([], bs)
-read-gaps w (suc n) last bs = do
-  (gap, bs₁) ← take-field w bs
-  require 8 (ltb (last + gap + 1) top)
-  (xs, rest) ← read-gaps w n (last + gap + 1) bs₁
-  accepted ((last + gap + 1) ∷ xs, rest)
+-- Reading, from a source off which `take-bits w` takes a field of w bits
+module _ {S : Type 0} (take-bits : ℕ → S → Outcome (ℕ × S)) where
+  -- the n numbers behind `last`, 8 at the gap that passes 4,294,967,295
+  unfoldable pub read-gaps : ℕ → ℕ → ℕ → S → Outcome (List ℕ × S)
+  read-gaps w zero last source = accepted ([], source)
+  read-gaps w (suc n) last source = do
+    (gap, source₁) ← take-bits w source
+    require 8 (ltb (last + gap + 1) top)
+    (xs, rest) ← read-gaps w n (last + gap + 1) source₁
+    accepted ((last + gap + 1) ∷ xs, rest)
 
--- the n numbers behind the first, of 1 or more numbers; 9 after the gaps
-unfoldable pub read-later : ℕ → ℕ → List Bool → Outcome (List ℕ × List Bool)
-read-later zero first bs = accepted ([], bs)
-read-later (suc n) first bs = do
-  (less, bs₁) ← take-field 5 bs
-  (xs, rest) ← read-gaps (less + 1) (suc n) first bs₁
-  require 9 (eqb (less + 1) (width (largest-gap first xs)))
-  accepted (xs, rest)
+  -- the n numbers behind the first, of 1 or more numbers; 9 after the gaps
+  unfoldable pub read-later : ℕ → ℕ → S → Outcome (List ℕ × S)
+  read-later zero first source = accepted ([], source)
+  read-later (suc n) first source = do
+    (less, source₁) ← take-bits 5 source
+    (xs, rest) ← read-gaps (less + 1) (suc n) first source₁
+    require 9 (eqb (less + 1) (width (largest-gap first xs)))
+    accepted (xs, rest)
 
--- the numbers of a list of so many
-unfoldable pub read-body : ℕ → List Bool → Outcome (List ℕ × List Bool)
-read-body zero bs = accepted ([], bs)
-read-body (suc n) bs = do
-  (first, bs₁) ← take-field 32 bs
-  (xs, rest) ← read-later n first bs₁
-  accepted (first ∷ xs, rest)
+  -- the numbers of a list of so many
+  unfoldable pub read-body : ℕ → S → Outcome (List ℕ × S)
+  read-body zero source = accepted ([], source)
+  read-body (suc n) source = do
+    (first, source₁) ← take-bits 32 source
+    (xs, rest) ← read-later n first source₁
+    accepted (first ∷ xs, rest)
 
--- one list, with so much room for its numbers: "6 for the numbers once its count is read"
-unfoldable pub read-list : ℕ → List Bool → Outcome (List ℕ × List Bool)
-read-list room bs = do
-  (count, bs₁) ← take-field 16 bs
-  require 6 (leb count room)
-  read-body count bs₁
+  -- one list, with so much room for its numbers: "6 for the numbers once its count is read"
+  unfoldable pub read-list : ℕ → S → Outcome (List ℕ × S)
+  read-list room source = do
+    (count, source₁) ← take-bits 16 source
+    require 6 (leb count room)
+    read-body count source₁
 
--- so many lists, each in the room that those before it have left
-unfoldable pub read-lists : ℕ → ℕ → List Bool → Outcome (List (List ℕ) × List Bool)
-read-lists zero room bs = accepted ([], bs)
-read-lists (suc n) room bs = do
-  (l, bs₁) ← read-list room bs
-  (ls, rest) ← read-lists n (room - length l) bs₁
-  accepted (l ∷ ls, rest)
+  -- so many lists, each in the room that those before it have left
+  unfoldable pub read-lists : ℕ → ℕ → S → Outcome (List (List ℕ) × S)
+  read-lists zero room source = accepted ([], source)
+  read-lists (suc n) room source = do
+    (l, source₁) ← read-list room source
+    (ls, rest) ← read-lists n (room - length l) source₁
+    accepted (l ∷ ls, rest)
 
 -- "Order: 1 wherever bits run out; 7; 6 for the ends row; then for each list [..]; finally 5", with so much room in
 -- the numbers row and the ends row
@@ -98,6 +100,6 @@ read-delivery numbers-room ends-room bs = do
   (n, bs₁) ← take-field 6 (bits bs)
   require 7 (count-holds n)
   require 6 (leb n ends-room)
-  (ls, rest) ← read-lists n numbers-room bs₁
+  (ls, rest) ← read-lists take-field n numbers-room bs₁
   require 5 (only-fill rest)
   accepted ls

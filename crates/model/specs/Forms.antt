@@ -62,22 +62,24 @@ take-byte (b ∷ bs) = do
   n ← node-of b
   accepted (n, bs)
 
--- one node off packed bits: a field of w bits that says the rest of it, by its kind; 1 where the bits end
-unfoldable pub take-rest : ℕ → (ℕ → Node) → List Bool → Outcome (Node × List Bool)
-take-rest w of bs = do
-  (n, rest) ← take-field w bs
-  accepted (of n, rest)
+-- one node off packed bits, from a source off which `take-bits w` takes a field of w bits: a field that says the rest of
+-- it, by its kind; 1 where the bits end
+module _ {S : Type 0} (take-bits : ℕ → S → Outcome (ℕ × S)) where
+  unfoldable pub take-rest : ℕ → (ℕ → Node) → S → Outcome (Node × S)
+  take-rest w of source = do
+    (n, rest) ← take-bits w source
+    accepted (of n, rest)
 
-unfoldable pub take-kind : ℕ → List Bool → Outcome (Node × List Bool)
-take-kind zero bs = take-rest 5 Leaf bs
-take-kind (suc zero) bs = accepted (Difference, bs)
-take-kind (suc (suc zero)) bs = take-rest 3 (λ n. Union (n + 1)) bs
-take-kind (suc (suc (suc kind))) bs = take-rest 3 (λ n. Intersection (n + 1)) bs
+  unfoldable pub take-kind : ℕ → S → Outcome (Node × S)
+  take-kind zero source = take-rest 5 Leaf source
+  take-kind (suc zero) source = accepted (Difference, source)
+  take-kind (suc (suc zero)) source = take-rest 3 (λ n. Union (n + 1)) source
+  take-kind (suc (suc (suc kind))) source = take-rest 3 (λ n. Intersection (n + 1)) source
 
-unfoldable pub take-node : List Bool → Outcome (Node × List Bool)
-take-node bs = do
-  (kind, rest) ← take-field 2 bs
-  take-kind kind rest
+  unfoldable pub take-node : S → Outcome (Node × S)
+  take-node source = do
+    (kind, rest) ← take-bits 2 source
+    take-kind kind rest
 
 -- Reading either form, from a source off which `take-one` takes one node
 module _ {S : Type 0} (lists : ℕ) (take-one : S → Outcome (Node × S)) where
@@ -131,6 +133,6 @@ read-row lists bs = do
 
 unfoldable pub read-packed : ℕ → List ℕ → Outcome Tree
 read-packed lists bs = do
-  (t, done, rest) ← read-tree lists take-node 12 0 (bits bs)
+  (t, done, rest) ← read-tree lists (take-node take-field) 12 0 (bits bs)
   require 5 (only-fill rest)
   accepted t

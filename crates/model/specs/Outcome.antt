@@ -24,6 +24,11 @@ abbrev pub require : ℕ → Bool → Outcome (Unit {0})
 require n true = accepted tt
 require n false = refused n
 
+-- the number alone, 0 for what is accepted
+unfoldable pub number-of : {A : Type 0} → Outcome A → ℕ
+number-of (refused n) = n
+number-of (accepted a) = 0
+
 -- what a call sends back: the number, the other parts of its result in the order of that paragraph, and its lent rows
 pub record Sent : Type 0 where
   pub number : ℕ

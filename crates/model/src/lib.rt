@@ -17,3 +17,16 @@ pub enum Reply {
     No,
     Unknown,
 }
+
+// What a call that writes into one lent row hands back: the number of a refusal or 0, and how many elements it wrote.
+pub struct Written {
+    pub number: u32,
+    pub count: usize,
+}
+
+// What reading a delivery hands back: the number of a refusal or 0, how many lists, and how many numbers in all of them.
+pub struct Delivered {
+    pub number: u32,
+    pub lists: usize,
+    pub numbers: usize,
+}
