@@ -47,7 +47,7 @@ pub value-field : (w n : ℕ) → n < 2 ^ w → value (field w n) ≡ n
 value-field w n h = value-mod w n ∙ mod-eq-of-lt h
 
 -- higher bits do not show in a field
-field-high : (w m n : ℕ) → field w (m * 2 ^ w + n) ≡ field w n
+pub field-high : (w m n : ℕ) → field w (m * 2 ^ w + n) ≡ field w n
 unfolding field
 field-high zero m n = refl
 field-high (suc w) m n =
@@ -145,7 +145,7 @@ pub fill-only : (k : ℕ) → k < 8 → only-fill (replicate k false) ≡ true
 unfolding only-fill
 fill-only k h = cc (lt-ltb (length (replicate k false)) 8 (omega (arith, length-replicate k false)), zeros-replicate k)
 
-bits-length : (bs : List ℕ) → length (bits bs) ≡ 8 * length bs
+pub bits-length : (bs : List ℕ) → length (bits bs) ≡ 8 * length bs
 unfolding bits
 bits-length [] = refl
 bits-length (b ∷ bs) = omega (arith, length-append (field 8 b) (bits bs), field-length 8 b, bits-length bs)

@@ -23,13 +23,114 @@ module _ {S T : Type 0} (see : S → T) where
   seen (accepted r) = accepted (r .0, see (r .1))
 
   -- one step, and what follows it
-  then : {A B : Type 0} (o : Outcome (A × S)) {p : Outcome (A × T)} (f : A × S → Outcome (B × S)) (g : A × T → Outcome (B × T))
+  pub then : {A B : Type 0} (o : Outcome (A × S)) {p : Outcome (A × T)} (f : A × S → Outcome (B × S)) (g : A × T → Outcome (B × T))
       → p ≡ seen o → ((a : A) (s : S) → g (a, see s) ≡ seen (f (a, s))) → (p >>= g) ≡ seen (o >>= f)
   unfolding seen
   then (refused n) f g e h = rw e
   then (accepted r) f g e h = rw e (h (r .0) (r .1))
 
-  tested : {B : Type 0} (n : ℕ) (b : Bool) (o : Outcome (B × S)) {p : Outcome (B × T)} → p ≡ seen o → (require n b >> p) ≡ seen (require n b >> o)
+  pub tested : {B : Type 0} (n : ℕ) (b : Bool) (o : Outcome (B × S)) {p : Outcome (B × T)} → p ≡ seen o → (require n b >> p) ≡ seen (require n b >> o)
   unfolding seen
   tested n true o e = e
   tested n false o e = refl
+
+  -- the same of a tree or member nodes, which come with how many nodes are read
+  unfoldable pub read-seen : {A : Type 0} → Outcome (A × ℕ × S) → Outcome (A × ℕ × T)
+  read-seen (refused n) = refused n
+  read-seen (accepted r) = accepted (r .0, r .1, see (r .2))
+
+  -- a node, and what is read behind it
+  node-then : {A B : Type 0} (o : Outcome (A × S)) {p : Outcome (A × T)} (f : A × S → Outcome (B × ℕ × S)) (g : A × T → Outcome (B × ℕ × T))
+      → p ≡ seen o → ((a : A) (s : S) → g (a, see s) ≡ read-seen (f (a, s))) → (p >>= g) ≡ read-seen (o >>= f)
+  unfolding seen read-seen
+  node-then (refused n) f g e h = rw e
+  node-then (accepted r) f g e h = rw e (h (r .0) (r .1))
+
+  -- a tree, and what is read behind it
+  tree-then : {A B : Type 0} (o : Outcome (A × ℕ × S)) {p : Outcome (A × ℕ × T)} (f : A × ℕ × S → Outcome (B × ℕ × S)) (g : A × ℕ × T → Outcome (B × ℕ × T))
+      → p ≡ read-seen o → ((a : A) (n : ℕ) (s : S) → g (a, n, see s) ≡ read-seen (f (a, n, s))) → (p >>= g) ≡ read-seen (o >>= f)
+  unfolding read-seen
+  tree-then (refused n) f g e h = rw e
+  tree-then (accepted r) f g e h = rw e (h (r .0) (r .1) (r .2))
+
+  read-tested : {B : Type 0} (n : ℕ) (b : Bool) (o : Outcome (B × ℕ × S)) {p : Outcome (B × ℕ × T)} → p ≡ read-seen o → (require n b >> p) ≡ read-seen (require n b >> o)
+  unfolding read-seen
+  read-tested n true o e = e
+  read-tested n false o e = refl
+
+-- sources off which fields are taken alike
+module _ {S T : Type 0} (see : S → T) (take-bits₁ : ℕ → S → Outcome (ℕ × S)) (take-bits₂ : ℕ → T → Outcome (ℕ × T))
+    (alike : (w : ℕ) (s : S) → take-bits₂ w (see s) ≡ seen see (take-bits₁ w s)) where
+  rest-seen : (w : ℕ) (of : ℕ → Node) (s : S) → take-rest take-bits₂ w of (see s) ≡ seen see (take-rest take-bits₁ w of s)
+  unfolding take-rest seen
+  rest-seen w of s = then see (take-bits₁ w s) _ _ (alike w s) (λ n r. refl)
+
+  kind-seen : (kind : ℕ) (s : S) → take-kind take-bits₂ kind (see s) ≡ seen see (take-kind take-bits₁ kind s)
+  unfolding take-kind seen
+  kind-seen zero s = rest-seen 5 Leaf s
+  kind-seen (suc zero) s = refl
+  kind-seen (suc (suc zero)) s = rest-seen 3 (λ n. Union (n + 1)) s
+  kind-seen (suc (suc (suc kind))) s = rest-seen 3 (λ n. Intersection (n + 1)) s
+
+  pub node-seen : (s : S) → take-node take-bits₂ (see s) ≡ seen see (take-node take-bits₁ s)
+  unfolding take-node
+  node-seen s = then see (take-bits₁ 2 s) _ _ (alike 2 s) kind-seen
+
+  pub gaps-seen : (w n last : ℕ) (s : S) → read-gaps take-bits₂ w n last (see s) ≡ seen see (read-gaps take-bits₁ w n last s)
+  unfolding read-gaps seen
+  gaps-seen w zero last s = refl
+  gaps-seen w (suc n) last s = then see (take-bits₁ w s) _ _ (alike w s) (λ gap r. tested see 8 (ltb (last + gap + 1) top) _
+      (then see (read-gaps take-bits₁ w n (last + gap + 1) r) _ _ (gaps-seen w n (last + gap + 1) r) (λ xs q. refl)))
+
+  pub later-seen : (n first : ℕ) (s : S) → read-later take-bits₂ n first (see s) ≡ seen see (read-later take-bits₁ n first s)
+  unfolding read-later seen
+  later-seen zero first s = refl
+  later-seen (suc n) first s = then see (take-bits₁ 5 s) _ _ (alike 5 s) (λ less r.
+      then see (read-gaps take-bits₁ (less + 1) (suc n) first r) _ _ (gaps-seen (less + 1) (suc n) first r) (λ xs q.
+      tested see 9 (eqb (less + 1) (width (largest-gap first xs))) _ refl))
+
+  pub body-seen : (n : ℕ) (s : S) → read-body take-bits₂ n (see s) ≡ seen see (read-body take-bits₁ n s)
+  unfolding read-body seen
+  body-seen zero s = refl
+  body-seen (suc n) s = then see (take-bits₁ 32 s) _ _ (alike 32 s) (λ first r. then see (read-later take-bits₁ n first r) _ _ (later-seen n first r) (λ xs q. refl))
+
+  pub list-seen : (room : ℕ) (s : S) → read-list take-bits₂ room (see s) ≡ seen see (read-list take-bits₁ room s)
+  unfolding read-list
+  list-seen room s = then see (take-bits₁ 16 s) _ _ (alike 16 s) (λ count r. tested see 6 (leb count room) _ (body-seen count r))
+
+  pub lists-seen : (n room : ℕ) (s : S) → read-lists take-bits₂ n room (see s) ≡ seen see (read-lists take-bits₁ n room s)
+  unfolding read-lists seen
+  lists-seen zero room s = refl
+  lists-seen (suc n) room s = then see (read-list take-bits₁ room s) _ _ (list-seen room s) (λ l r.
+      then see (read-lists take-bits₁ n (room - length l) r) _ _ (lists-seen n (room - length l) r) (λ ls q. refl))
+
+-- sources off which nodes are taken alike
+module _ {S T : Type 0} (see : S → T) (lists : ℕ) (take-one₁ : S → Outcome (Node × S)) (take-one₂ : T → Outcome (Node × T))
+    (alike : (s : S) → take-one₂ (see s) ≡ seen see (take-one₁ s)) where
+  abbrev Alike : (ℕ → S → Outcome (Tree × ℕ × S)) → (ℕ → T → Outcome (Tree × ℕ × T)) → Type 0
+  Alike tree₁ tree₂ = (done : ℕ) (s : S) → tree₂ done (see s) ≡ read-seen see (tree₁ done s)
+
+  module _ (tree₁ : ℕ → S → Outcome (Tree × ℕ × S)) (tree₂ : ℕ → T → Outcome (Tree × ℕ × T)) (h : Alike tree₁ tree₂) where
+    members-seen : (n done : ℕ) (s : S) → read-members lists take-one₂ tree₂ n done (see s) ≡ read-seen see (read-members lists take-one₁ tree₁ n done s)
+    unfolding read-members read-seen
+    members-seen zero done s = tree-then see (tree₁ done s) _ _ (h done s) (λ t m r. refl)
+    members-seen (suc n) done s = tree-then see (tree₁ done s) _ _ (h done s) (λ t m r.
+        tree-then see (read-members lists take-one₁ tree₁ n m r) _ _ (members-seen n m r) (λ ts k q. refl))
+
+    operator-seen : (of : Members → Tree) (n done : ℕ) (s : S)
+        → operator lists take-one₂ of (read-members lists take-one₂ tree₂ n done (see s)) ≡ read-seen see (operator lists take-one₁ of (read-members lists take-one₁ tree₁ n done s))
+    unfolding operator read-seen
+    operator-seen of n done s = tree-then see (read-members lists take-one₁ tree₁ n done s) _ _ (members-seen n done s) (λ ts k q. refl)
+
+    below-seen : (node : Node) (done : ℕ) (s : S) → read-below lists take-one₂ tree₂ node done (see s) ≡ read-seen see (read-below lists take-one₁ tree₁ node done s)
+    unfolding read-below read-seen
+    below-seen (Leaf k) done s = read-tested see 4 (ltb k lists) _ refl
+    below-seen Difference done s = tree-then see (tree₁ done s) _ _ (h done s) (λ t m r. tree-then see (tree₁ m r) _ _ (h m r) (λ u k q. refl))
+    below-seen (Union n) done s = operator-seen union (n - 1) done s
+    below-seen (Intersection n) done s = operator-seen intersection (n - 1) done s
+
+  pub tree-seen : (d done : ℕ) (s : S) → read-tree lists take-one₂ d done (see s) ≡ read-seen see (read-tree lists take-one₁ d done s)
+  unfolding read-tree read-seen
+  tree-seen zero done s = read-tested see 2 (ltb done 48) _ refl
+  tree-seen (suc d) done s = read-tested see 2 (ltb done 48) _ (node-then see (take-one₁ s) _ _ (alike s) (λ node r.
+      below-seen (read-tree lists take-one₁ d) (read-tree lists take-one₂ d) (tree-seen d) node (suc done) r))
