@@ -52,6 +52,9 @@ module _ {A : Type 0} where
   unfolding lay
   lay-set row i x h = set-split row i x h ∙ ap (λ (n : ℕ). take i row ++ (x ∷ drop n row)) (sym (add-one i))
 
+  pub lay-cons : (row : List A) (i : ℕ) (x : A) (xs : List A) → i < length row → lay row i (x ∷ xs) ≡ lay (set row i x) (i + 1) xs
+  lay-cons row i x xs h = sym (lay-append row i (x ∷ []) xs (omega arith)) ∙ ap (λ (r : List A). lay r (i + 1) xs) (sym (lay-set row i x h))
+
   -- what stood there may be laid again around what is new
   pub lay-around : (row : List A) (at a b : ℕ) (xs : List A) → at + a + length xs + b ≤ length row
       → lay row at (take a (drop at row) ++ (xs ++ take b (drop (at + a + length xs) row))) ≡ lay row (at + a) xs

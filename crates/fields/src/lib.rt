@@ -4,6 +4,7 @@ ghost use mathlib.Core.Path.{_≡_};
 ghost use Prim.Native.Nat.{ℕ, _+_, _-_, _*_, _/_, _%_, _^_, _≤_, _<_};
 ghost use lib.ListN.{length, take, drop};
 ghost use Rattle.model.specs.Fields.{bits, value, field, only-fill};
+ghost use Rattle.model.specs.Delivery.{width};
 ghost use Rattle.fields.specs.Positions.{take-at, field-says, put-bits};
 
 // What taking a field finds: its value and the position behind it, or that the bits run out.
@@ -150,4 +151,12 @@ pub fn put_field(s: &mut [u8], at: usize, w: usize, v: u32)
     let x = bytes_at(s, first, n);
     let head = join(high_bits(x, w + behind), w, v as u64);
     put_bytes(s, first, n, join(head, behind, low_bits(x, behind)));
+}
+
+// The least width that holds m, and at least 1: 32 less the leading zeros of m.
+pub fn width_of(m: u32) -> u32
+    ensures { λ r. ⌜ r ≡ width m ⌝ }
+{
+    let n = 32 - u32::leading_zeros(m);
+    if n == 0 { 1 } else { n }
 }

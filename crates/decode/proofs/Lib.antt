@@ -1,0 +1,4 @@
+-- The laws that belong to no one function.
+pub mod Reading
+pub mod Bounds
+pub mod Whole
