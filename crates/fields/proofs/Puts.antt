@@ -4,12 +4,13 @@ use mathlib.Core.Path.{_≡_, refl, sym, ap, ap₂, _∙_, subst}
 use mathlib.Core.Bool.{Bool, false}
 use mathlib.Core.List.{List, [], _∷_, _++_, append-assoc, append-nil}
 use Prim.Native.Nat.{ℕ, zero, suc, _+_, _-_, _*_, _/_, _%_, _^_, _≤_, _<_}
-use native.Mathlib.Nat.{mod-lt, zero-lt-suc, lt-of-lt-of-le}
+use native.Mathlib.Nat.{zero-div, mod-lt, zero-lt-suc, lt-of-lt-of-le}
 use native.Mathlib.Numerals.{add-one}
 use native.Mathlib.Omega.{arith}
 use lib.Pow.{split, pow-mono}
 use lib.ListN.{length, getD, take, drop, set, replicate, length-append, length-replicate, length-take, length-drop}
-use lib.Seq.{set-split}
+use lib.Dec.{eqb}
+use lib.Seq.{set-split, getD-drop}
 use Rattle.model.specs.Fields.{Bytes, field, bits, value, fill, bytes}
 use Rattle.model.proofs.Bits.{field-length, field-high, field-value, filled, fill-only, bytes-are, bits-length}
 use Rattle.model.proofs.Accepted.{value-lt}
@@ -38,9 +39,13 @@ fill-small (suc n) bs zero =
     lt-of-lt-of-le (value-lt eight) (pow-mono few)
 fill-small (suc n) bs (suc i) = fill-small n (drop 8 bs) i
 
+bytes-small : (bs : List Bool) → Bytes (bytes bs)
+unfolding bytes
+bytes-small bs = fill-small _ bs
+
 pub put-small : (s : List ℕ) (p : ℕ) (bs : List Bool) → Bytes (put-bits s p bs)
-unfolding put-bits bytes
-put-small s p bs = fill-small _ (lay (bits s) p bs)
+unfolding put-bits
+put-small s p bs = bytes-small (lay (bits s) p bs)
 
 -- ---- bits are put piece by piece as at once
 
@@ -119,3 +124,37 @@ put-held s at w e n v all there small =
     put-is s first _ ∙ ap (λ (l : List Bool). bytes (lay (bits s) first l)) (whole ∙ ap (λ (k : ℕ). b ++ (field w v ++ take e (drop k (bits s)))) lift)
     ∙ ap bytes (lay-around (bits s) first (at % 8) e (field w v) (omega (arith, field-length w v, bits-length s)))
     ∙ ap (λ (k : ℕ). bytes (lay (bits s) k (field w v))) here ∙ sym (put-is s at (field w v))
+
+-- ---- bits put from the start of a row, and zero bits behind them up to a whole byte
+
+pub zero-field : (k : ℕ) → field k 0 ≡ replicate k false
+unfolding field
+zero-field zero = refl
+zero-field (suc k) = ap₂ (λ (n : ℕ) (l : List Bool). eqb (n % 2) 1 ∷ l) (zero-div (2 ^ k)) (zero-field k)
+
+both-small : (s t : List ℕ) → Bytes s → Bytes t → Bytes (s ++ t)
+both-small [] t hs ht i = ht i
+both-small (b ∷ s) t hs ht zero = hs zero
+both-small (b ∷ s) t hs ht (suc i) = both-small s t (λ j. hs (suc j)) ht i
+
+drop-small : (n : ℕ) (s : List ℕ) → Bytes s → Bytes (drop n s)
+drop-small n s h i = rw (getD-drop n s i 0) (h (n + i))
+
+-- how many bytes bits fill
+pub bytes-length : (bs : List Bool) → length (bytes bs) ≡ (length bs + 7) / 8
+bytes-length bs =
+    let f = filled bs in
+    omega (arith, f .few, ap length (f .are), bits-length (bytes bs), length-append bs (replicate (f .zeros-behind) false), length-replicate (f .zeros-behind) false)
+
+pub put-whole : (s : List ℕ) (bs : List Bool) (k : ℕ) → Bytes s → length bs + k ≡ 8 * length (bytes bs) → length (bytes bs) ≤ length s
+    → put-bits s 0 (bs ++ field k 0) ≡ bytes bs ++ drop (length (bytes bs)) s
+unfolding lay
+put-whole s bs k h e l =
+    let n : ℕ = length (bytes bs) in
+    let f = filled bs in
+    let same : k ≡ f .zeros-behind = omega (arith, ap length (f .are), bits-length (bytes bs), length-append bs (replicate (f .zeros-behind) false), length-replicate (f .zeros-behind) false) in
+    let full : bs ++ field k 0 ≡ bits (bytes bs) = ap (λ (z : List Bool). bs ++ z) (zero-field k ∙ ap (λ (j : ℕ). replicate j false) same) ∙ sym (f .are) in
+    let next : 0 + length (bits (bytes bs)) ≡ 8 * n = omega (arith, bits-length (bytes bs)) in
+    put-is s 0 (bs ++ field k 0) ∙ ap (λ (b : List Bool). bytes (lay (bits s) 0 b)) full
+    ∙ ap bytes (ap (λ (j : ℕ). bits (bytes bs) ++ drop j (bits s)) next ∙ ap (λ (b : List Bool). bits (bytes bs) ++ b) (bits-drop n s) ∙ sym (bits-append (bytes bs) (drop n s)))
+    ∙ bytes-bits (bytes bs ++ drop n s) (both-small (bytes bs) (drop n s) (bytes-small bs) (drop-small n s h))
