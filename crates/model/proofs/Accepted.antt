@@ -44,7 +44,7 @@ required n false o b h = never-accepted h
 
 -- ---- lists
 
-numbers-part : (numbers : List ℕ) (n start : ℕ) → Numbers numbers → Numbers (take n (drop start numbers))
+pub numbers-part : (numbers : List ℕ) (n start : ℕ) → Numbers numbers → Numbers (take n (drop start numbers))
 numbers-part numbers n start h i = split (getD (take n (drop start numbers)) i 0 < top) i n
     (λ lt. rw (getD-take n (drop start numbers) i 0 lt, getD-drop start numbers i 0) (h (start + i)))
     (λ ge. rw (List·getD-eq-default (take n (drop start numbers)) 0 {n = i} (omega (arith, length-take n (drop start numbers)))) (omega arith))

@@ -93,7 +93,7 @@ starts numbers start (stop ∷ ends) (suc k) h lt =
     let c = and-true (leb (stop - start) 65535) _ (b .1) in
     starts numbers stop ends k (c .1) (omega arith)
 
-lists-length : (numbers : List ℕ) (start : ℕ) (ends : List ℕ) → length (lists-from numbers start ends) ≡ length ends
+pub lists-length : (numbers : List ℕ) (start : ℕ) (ends : List ℕ) → length (lists-from numbers start ends) ≡ length ends
 unfolding lists-from
 lists-length numbers start [] = refl
 lists-length numbers start (stop ∷ ends) = ap suc (lists-length numbers stop ends)

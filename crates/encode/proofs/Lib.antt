@@ -1,0 +1,4 @@
+-- The laws that belong to no one function.
+pub mod Sizes
+pub mod Rest
+pub mod Whole

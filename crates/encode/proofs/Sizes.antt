@@ -1,0 +1,143 @@
+-- The bits of a list by its length, and the width of its gaps. Assumes nothing.
+use mathlib.Core.Path.{_≡_, refl, sym, ap, ap₂, _∙_}
+use mathlib.Core.Bool.{Bool, true, _&&_}
+use mathlib.Core.List.{List, [], _∷_, _++_, append-nil}
+use Prim.Native.Nat.{ℕ, zero, suc, _+_, _-_, _*_, _^_, _≤_, _<_, max}
+use native.Mathlib.Nat.{mul-suc, mul-zero, mul-le-mul-left, mul-le-mul-right}
+use native.Mathlib.Numerals.{add-one}
+use native.Mathlib.Omega.{arith}
+use lib.Dec.{ltb}
+use lib.ListN.{length, getD, drop, length-append}
+use borrow.Author.Tests.{ltb-true}
+use Rattle.model.specs.Outcome.{Outcome, accepted, _>>_, require}
+use Rattle.model.specs.Lists.{top, Numbers, rises, ascending}
+use Rattle.model.specs.Fields.{field}
+use Rattle.model.specs.Delivery.{largest-gap, width, gap-bits, later-bits, body-bits, list-bits}
+use Rattle.model.specs.Demands.{Least-width}
+use Rattle.model.proofs.Order.{and-true}
+use Rattle.model.proofs.Accepted.{required, accepted-same}
+use Rattle.model.proofs.Bits.{field-length}
+use Rattle.model.proofs.Deliveries.{width-is}
+use Rattle.lists.specs.Rise.{largest, rise, rise-says}
+use Rattle.encode.specs.Measures.{gap-width, list-size}
+
+-- ---- the gaps
+
+pub gap-bits-length : (w last : ℕ) (xs : List ℕ) → length (gap-bits w last xs) ≡ w * length xs
+unfolding gap-bits
+gap-bits-length w last [] = sym (mul-zero w)
+gap-bits-length w last (x ∷ xs) = omega (arith, length-append (field w (x - last - 1)) (gap-bits w x xs), field-length w (x - last - 1), gap-bits-length w x xs, mul-suc w (length xs))
+
+-- one more field of w bits, of n
+pub more-bits : (w i n : ℕ) → i < n → w ≤ 32 → (w * (i + 1) ≡ w * i + w) × (w * (i + 1) ≤ w * n) × (w * n ≤ 32 * n)
+more-bits w i n h l = (ap (λ (k : ℕ). w * k) (add-one i) ∙ mul-suc w i, mul-le-mul-left w (omega arith), mul-le-mul-right n l)
+
+-- the gaps of numbers are below 4,294,967,296
+gaps-small : (last : ℕ) (xs : List ℕ) → Numbers xs → largest-gap last xs < top
+unfolding largest-gap
+gaps-small last [] h = omega arith
+gaps-small last (x ∷ xs) h = omega (arith, h 0, gaps-small x xs (λ i. h (suc i)))
+
+largest-small : (l : List ℕ) → Numbers l → largest l < top
+unfolding largest
+largest-small [] h = omega arith
+largest-small (x ∷ xs) h = gaps-small x xs (λ i. h (suc i))
+
+-- ---- the width
+
+pub record Wide (m w : ℕ) : Type 0 where
+  pub one : 1 ≤ w
+  pub most : w ≤ 32
+  pub holds : m < 2 ^ w
+
+pub width-wide : (m : ℕ) → m < top → Wide m (width m)
+width-wide m h = let v = width-is m h in record { one = v .one; most = v .least 32 (omega arith) h; holds = v .holds }
+
+pub gap-width-wide : (l : List ℕ) → Numbers l → Wide (largest l) (gap-width l)
+unfolding gap-width
+gap-width-wide l h = width-wide (largest l) (largest-small l h)
+
+-- what is known of a list that ascends
+pub risen : (l : List ℕ) (g : ℕ) → accepted g ≡ rise l → (ascending l ≡ true) × (largest l ≡ g)
+unfolding rise
+risen l g e = let a = required 11 (ascending l) (accepted (largest l)) g (sym e) in (a .0, accepted-same (a .1))
+
+-- ---- the bits of a list
+
+pub bits-none : (l : List ℕ) → length l ≡ 0 → list-bits l ≡ field 16 (length l)
+unfolding list-bits body-bits
+bits-none [] h = append-nil (field 16 0)
+bits-none (x ∷ l) h = absurd (omega arith)
+
+pub bits-one : (l : List ℕ) → length l ≡ 1 → list-bits l ≡ field 16 (length l) ++ field 32 (getD l 0 0)
+unfolding list-bits body-bits later-bits
+bits-one [] h = absurd (omega arith)
+bits-one (x ∷ []) h = ap (λ (b : List Bool). field 16 1 ++ b) (append-nil (field 32 x))
+bits-one (x ∷ y ∷ l) h = absurd (omega arith)
+
+pub bits-more : (l : List ℕ) → 2 ≤ length l → list-bits l ≡ field 16 (length l) ++ (field 32 (getD l 0 0) ++ (field 5 (gap-width l - 1) ++ gap-bits (gap-width l) (getD l 0 0) (drop 1 l)))
+unfolding list-bits body-bits later-bits gap-width largest
+bits-more [] h = absurd (omega arith)
+bits-more (x ∷ []) h = absurd (omega arith)
+bits-more (x ∷ y ∷ l) h = refl
+
+pub list-size-is : (l : List ℕ) → length (list-bits l) ≡ list-size (length l) (gap-width l)
+unfolding list-size
+list-size-is [] = ap length (bits-none [] refl) ∙ field-length 16 0
+list-size-is (x ∷ []) = ap length (bits-one (x ∷ []) refl) ∙ omega (arith, length-append (field 16 1) (field 32 x), field-length 16 1, field-length 32 x)
+list-size-is (x ∷ y ∷ l) =
+    let m : List ℕ = x ∷ y ∷ l in
+    let w : ℕ = gap-width m in
+    let g : List Bool = gap-bits w x (y ∷ l) in
+    let a : length (field 5 (w - 1) ++ g) ≡ 5 + w * suc (length l) = omega (arith, length-append (field 5 (w - 1)) g, field-length 5 (w - 1), gap-bits-length w x (y ∷ l)) in
+    let b : length (field 32 x ++ (field 5 (w - 1) ++ g)) ≡ 37 + w * suc (length l) = omega (arith, length-append (field 32 x) (field 5 (w - 1) ++ g), field-length 32 x) in
+    ap length (bits-more m (omega arith)) ∙ omega (arith, length-append (field 16 (length m)) (field 32 x ++ (field 5 (w - 1) ++ g)), field-length 16 (length m))
+
+pub size-small : (n w : ℕ) → n ≤ 65535 → w ≤ 32 → list-size n w ≤ 4194304
+unfolding list-size
+size-small zero w h l = omega arith
+size-small (suc zero) w h l = omega arith
+size-small (suc (suc n)) w h l = omega (arith, mul-le-mul-right (suc n) l)
+
+pub size-some : (n w : ℕ) → 1 ≤ n → 48 ≤ list-size n w
+unfolding list-size
+size-some zero w h = absurd (omega arith)
+size-some (suc zero) w h = omega arith
+size-some (suc (suc n)) w h = omega arith
+
+pub size-more : (n w : ℕ) → 2 ≤ n → list-size n w ≡ 53 + w * (n - 1)
+unfolding list-size
+size-more zero w h = absurd (omega arith)
+size-more (suc zero) w h = absurd (omega arith)
+size-more (suc (suc n)) w h = let pred : suc n ≡ suc (suc n) - 1 = omega arith in ap (λ (k : ℕ). 53 + w * k) pred
+
+pub size-any : (n w : ℕ) → 16 ≤ list-size n w
+unfolding list-size
+size-any zero w = omega arith
+size-any (suc zero) w = omega arith
+size-any (suc (suc n)) w = omega arith
+
+-- ---- numbers that rise, one by one
+
+pub record Up-next (w last x : ℕ) (xs : List ℕ) : Type 0 where
+  pub above : last < x
+  pub rest : rises x xs ≡ true
+  pub fits : x - last - 1 < 2 ^ w
+  pub rest-fits : largest-gap x xs < 2 ^ w
+
+pub up-next : (w last x : ℕ) (xs : List ℕ) → rises last (x ∷ xs) ≡ true → largest-gap last (x ∷ xs) < 2 ^ w → Up-next w last x xs
+unfolding rises largest-gap
+up-next w last x xs h l =
+    let a = and-true (ltb last x) (rises x xs) h in
+    record { above = ltb-true last x (a .0); rest = a .1; fits = omega arith; rest-fits = omega arith }
+
+-- a list that ascends, from its first number on
+pub from-first : (l : List ℕ) → 1 ≤ length l → ascending l ≡ true → rises (getD l 0 0) (drop 1 l) ≡ true
+unfolding ascending
+from-first [] h e = absurd (omega arith)
+from-first (x ∷ l) h e = e
+
+pub largest-first : (l : List ℕ) → 1 ≤ length l → largest l ≡ largest-gap (getD l 0 0) (drop 1 l)
+unfolding largest
+largest-first [] h = absurd (omega arith)
+largest-first (x ∷ l) h = refl

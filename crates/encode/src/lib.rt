@@ -1,0 +1,190 @@
+// A delivery, written. One pass over the numbers tests that each list ascends and finds the width of its gaps, a second one
+// writes; in between, the row is known to be long enough.
+ghost use mathlib.Core.Path.{_≡_};
+ghost use mathlib.Core.Bool.{true};
+ghost use mathlib.Core.List.{map};
+ghost use Prim.Native.Nat.{_+_, _-_, _*_, _^_, _≤_, _<_};
+ghost use lib.ListN.{length, getD, drop, replicate};
+ghost use Rattle.model.specs.Lists.{rises, ascending, all-ascending, lists-from, ends-hold};
+ghost use Rattle.model.specs.Delivery.{largest-gap, gap-bits, list-bits, lists-bits};
+ghost use Rattle.model.specs.Calls.{written, encode-delivery};
+ghost use Rattle.fields.specs.Rows.{lay};
+ghost use Rattle.fields.specs.Positions.{put-bits};
+ghost use Rattle.encode.specs.Measures.{gap-width, list-size, measured};
+use lists::Rise;
+use model::Written;
+
+// What is known before the first bit is written: 11 or 0, the bits of all lists, and the width of each list's gaps.
+pub struct Measure {
+    pub number: u32,
+    pub bits: usize,
+    pub widths: [u8; 32],
+}
+
+fn wide(x: u32) -> usize
+    ensures { λ r. ⌜ r ≡ x ⌝ }
+{
+    x as usize
+}
+
+// A number of at most 32 bits in so many.
+fn narrow(x: usize) -> u32
+    requires { ⌜ x < 2 ^ 32 ⌝ }
+    ensures { λ r. ⌜ r ≡ x ⌝ }
+{
+    x as u32
+}
+
+// How many bits a list of so many numbers takes, with gaps of w bits.
+fn bits_of(count: usize, w: usize) -> usize
+    requires { ⌜ (count ≤ 65535) × (w ≤ 32) ⌝ }
+    ensures { λ r. ⌜ r ≡ list-size count w ⌝ }
+{
+    if count == 0 {
+        return 16;
+    }
+    if count == 1 {
+        return 48;
+    }
+    53 + w * (count - 1)
+}
+
+// A width as a byte.
+fn byte(w: u32) -> u8
+    requires { ⌜ w < 256 ⌝ }
+    ensures { λ r. ⌜ r ≡ w ⌝ }
+{
+    w as u8
+}
+
+// The first pass: whether every list ascends, the bits of all lists, and the width of each list's gaps.
+fn survey(numbers: &[u32], ends: &[u32]) -> Measure
+    requires { ⌜ (ends-hold (length (now numbers)) 0 (now ends) ≡ true) × (length (now ends) ≤ 32) ⌝ }
+    ensures { λ r. ⌜ r ≡ measured (lists-from (now (numbers .entry)) 0 (now (ends .entry))) ⌝ }
+{
+    let mut widths = [0u8; 32];
+    let mut bits: usize = 0;
+    let mut start: usize = 0;
+    let mut k: usize = 0;
+    while k < ends.len() {
+        let stop = wide(ends[k]);
+        let Rise::Ascending(largest) = lists::rise_of(&numbers[start..stop]) else {
+            return Measure {
+                number: 11,
+                bits: 0,
+                widths: [0u8; 32],
+            };
+        };
+        let w = fields::width_of(largest);
+        widths[k] = byte(w);
+        bits += bits_of(stop - start, wide(w));
+        start = stop;
+        k += 1;
+    }
+    Measure {
+        number: 0,
+        bits,
+        widths,
+    }
+}
+
+// Puts the gaps minus 1 of a list's numbers behind its first, w bits each, from the bit position at on.
+fn put_gaps(s: &mut [u8], at: usize, w: usize, list: &[u32]) -> usize
+    requires { ⌜ (1 ≤ length (now list)) × (length (now list) ≤ 65535) × (w ≤ 32) × (at < 2 ^ 40) × (at + w * (length (now list) - 1) ≤ 8 * length (now s)) × (rises (getD (now list) 0 0) (drop 1 (now list)) ≡ true) × (largest-gap (getD (now list) 0 0) (drop 1 (now list)) < 2 ^ w) ⌝ }
+    ensures { λ r. ⌜ (r ≡ at + w * (length (now (list .entry)) - 1)) × (now (s .exit) ≡ put-bits (now (s .entry)) at (gap-bits w (getD (now (list .entry)) 0 0) (drop 1 (now (list .entry))))) ⌝ }
+{
+    let mut next = at;
+    let mut last = list[0];
+    let mut i = 1;
+    while i < list.len() {
+        let x = list[i];
+        fields::put_field(s, next, w, x - last - 1);
+        next += w;
+        last = x;
+        i += 1;
+    }
+    next
+}
+
+// Puts a list, whose gaps have w bits, from the bit position at on.
+fn put_list(s: &mut [u8], at: usize, list: &[u32], w: usize) -> usize
+    requires { ⌜ (length (now list) ≤ 65535) × (at < 2 ^ 39) × (at + length (list-bits (now list)) ≤ 8 * length (now s)) × (ascending (now list) ≡ true) × (w ≡ gap-width (now list)) ⌝ }
+    ensures { λ r. ⌜ (r ≡ at + length (list-bits (now (list .entry)))) × (now (s .exit) ≡ put-bits (now (s .entry)) at (list-bits (now (list .entry)))) ⌝ }
+{
+    fields::put_field(s, at, 16, narrow(list.len()));
+    if list.len() == 0 {
+        return at + 16;
+    }
+    fields::put_field(s, at + 16, 32, list[0]);
+    if list.len() == 1 {
+        return at + 48;
+    }
+    fields::put_field(s, at + 48, 5, narrow(w - 1));
+    put_gaps(s, at + 53, w, list)
+}
+
+fn wide_byte(x: u8) -> usize
+    ensures { λ r. ⌜ r ≡ x ⌝ }
+{
+    x as usize
+}
+
+// Puts all lists, whose gaps have these widths, behind the number of lists.
+fn put_lists(s: &mut [u8], numbers: &[u32], ends: &[u32], widths: [u8; 32]) -> usize
+    requires { ⌜ (ends-hold (length (now numbers)) 0 (now ends) ≡ true) × (length (now ends) ≤ 32) × (all-ascending (lists-from (now numbers) 0 (now ends)) ≡ true) × (widths ≡ lay (replicate 32 0) 0 (map gap-width (lists-from (now numbers) 0 (now ends)))) × (6 + length (lists-bits (lists-from (now numbers) 0 (now ends))) ≤ 8 * length (now s)) ⌝ }
+    ensures { λ r. ⌜ (r ≡ 6 + length (lists-bits (lists-from (now (numbers .entry)) 0 (now (ends .entry))))) × (now (s .exit) ≡ put-bits (now (s .entry)) 6 (lists-bits (lists-from (now (numbers .entry)) 0 (now (ends .entry))))) ⌝ }
+{
+    let mut next: usize = 6;
+    let mut start: usize = 0;
+    let mut k: usize = 0;
+    while k < ends.len() {
+        let stop = wide(ends[k]);
+        next = put_list(s, next, &numbers[start..stop], wide_byte(widths[k]));
+        start = stop;
+        k += 1;
+    }
+    next
+}
+
+// Writes a delivery of the lists into the lent bytes.
+pub fn encode_delivery(numbers: &[u32], ends: &[u32], bytes: &mut [u8]) -> Written
+    ensures { λ r. ⌜ written r (now (bytes .exit)) ≡ encode-delivery (now (numbers .entry)) (now (ends .entry)) (now (bytes .entry)) ⌝ }
+{
+    if ends.len() == 0 {
+        return Written {
+            number: 7,
+            count: 0,
+        };
+    }
+    if 32 < ends.len() {
+        return Written {
+            number: 7,
+            count: 0,
+        };
+    }
+    if !lists::ends_hold(numbers.len(), ends) {
+        return Written {
+            number: 10,
+            count: 0,
+        };
+    }
+    let m = survey(numbers, ends);
+    if m.number != 0 {
+        return Written {
+            number: m.number,
+            count: 0,
+        };
+    }
+    let count = (m.bits + 13) >> 3;
+    if bytes.len() < count {
+        return Written {
+            number: 6,
+            count: 0,
+        };
+    }
+    let widths = m.widths;
+    fields::put_field(bytes, 0, 6, narrow(ends.len()));
+    let next = put_lists(bytes, numbers, ends, widths);
+    fields::put_field(bytes, next, 8 * count - next, 0);
+    Written { number: 0, count }
+}

@@ -1,0 +1,104 @@
+-- What the three tests let through, and where list k's part stands: inside the numbers. Assumes nothing.
+use mathlib.Core.Path.{_≡_, refl, ap}
+use mathlib.Core.Bool.{Bool, true, false}
+use mathlib.Core.List.{List, [], _∷_}
+use Prim.Native.Nat.{ℕ, zero, suc, _+_, _-_, _≤_, _<_}
+use native.Mathlib.Omega.{arith}
+use borrow.Author.Tests.{le-leb, lt-leb, lt-ltb}
+use lib.ListN.{length, getD, drop, length-take, length-drop}
+use Rattle.model.specs.Outcome.{Outcome, refused, accepted, _>>_, require, number-of}
+use Rattle.model.specs.Lists.{all-ascending, part, lists-from, count-holds, ends-hold, lists-of, or-empty, span-of}
+use Rattle.model.proofs.Order.{split}
+use Rattle.model.proofs.Accepted.{lists-accepted}
+use Rattle.model.proofs.Laid.{lists-length, part-missing, part-refused}
+use Rattle.lists.proofs.Ends.{hold-next}
+
+-- ---- the number of lists
+
+pub count-none : (n : ℕ) → n < 1 → count-holds n ≡ false
+unfolding count-holds
+count-none n h = rw (lt-leb 1 n h)
+
+pub count-over : (n : ℕ) → 1 ≤ n → 32 < n → count-holds n ≡ false
+unfolding count-holds
+count-over n h o = rw (le-leb 1 n h, lt-leb n 32 o)
+
+pub count-right : (n : ℕ) → 1 ≤ n → n ≤ 32 → count-holds n ≡ true
+unfolding count-holds
+count-right n h o = rw (le-leb 1 n h, le-leb n 32 o)
+
+-- ---- the place of list k
+
+-- list k runs from the end before it to its own end, inside the numbers
+record Runs (numbers : List ℕ) (start : ℕ) (ends : List ℕ) (k : ℕ) : Type 0 where
+  order : getD (start ∷ ends) k 0 ≤ getD ends k 0
+  inside : getD ends k 0 ≤ length numbers
+  many : length (getD (lists-from numbers start ends) k []) ≡ getD ends k 0 - getD (start ∷ ends) k 0
+
+runs : (numbers : List ℕ) (start : ℕ) (ends : List ℕ) (k : ℕ) → ends-hold (length numbers) start ends ≡ true → k < length ends → Runs numbers start ends k
+unfolding lists-from part
+runs numbers start [] k e lt = absurd (omega arith)
+runs numbers start (stop ∷ ends) zero e lt =
+    let n = hold-next (length numbers) start (stop ∷ ends) 0 (omega arith) e in
+    record {
+      order = n .order;
+      inside = n .inside;
+      many = omega (arith, n .order, n .inside, length-take (stop - start) (drop start numbers), length-drop start numbers);
+    }
+runs numbers start (stop ∷ ends) (suc k) e lt =
+    let n = hold-next (length numbers) start (stop ∷ ends) 0 (omega arith) e in
+    let r = runs numbers stop ends k (n .rest) (omega arith) in
+    record { order = r .order; inside = r .inside; many = r .many }
+
+module _ (numbers ends : List ℕ) (k : ℕ) where
+  -- number 0 is acceptance: each test has a number of its own
+  passed : number-of (lists-of numbers ends) ≡ 0 → lists-of numbers ends ≡ accepted (lists-from numbers 0 ends)
+  unfolding lists-of number-of
+  passed h = go (count-holds (length ends)) (ends-hold (length numbers) 0 ends) (all-ascending (lists-from numbers 0 ends)) h
+    where
+      go : (a b c : Bool) → number-of (require 7 a >> (require 10 b >> (require 11 c >> accepted (lists-from numbers 0 ends)))) ≡ 0
+          → (require 7 a >> (require 10 b >> (require 11 c >> accepted (lists-from numbers 0 ends)))) ≡ accepted (lists-from numbers 0 ends)
+      go true true true h = refl
+      go true true false h = absurd (omega arith)
+      go true false c h = absurd (omega arith)
+      go false b c h = absurd (omega arith)
+
+  -- a refusal, or no list k: the empty part at the start
+  pub span-refused : (number-of (lists-of numbers ends) ≡ 0 → ⊥) → span-of numbers ends k ≡ record { start = 0; size = 0 }
+  unfolding number-of
+  span-refused h = go (lists-of numbers ends) refl
+    where
+      go : (o : Outcome (List (List ℕ))) → lists-of numbers ends ≡ o → span-of numbers ends k ≡ record { start = 0; size = 0 }
+      go (refused n) e = part-refused numbers ends k n e
+      go (accepted ls) e = absurd (h (ap number-of e))
+
+  pub span-missing : number-of (lists-of numbers ends) ≡ 0 → length ends ≤ k → span-of numbers ends k ≡ record { start = 0; size = 0 }
+  span-missing h le = part-missing numbers ends (lists-from numbers 0 ends) k (passed h) (omega (arith, lists-length numbers 0 ends))
+
+  -- list k of accepted lists
+  pub record There : Type 0 where
+    pub order : getD (0 ∷ ends) k 0 ≤ getD ends k 0
+    pub inside : getD ends k 0 ≤ length numbers
+    pub is : span-of numbers ends k ≡ record { start = getD (0 ∷ ends) k 0; size = getD ends k 0 - getD (0 ∷ ends) k 0 }
+
+  pub span-there : number-of (lists-of numbers ends) ≡ 0 → k < length ends → There
+  unfolding span-of or-empty
+  span-there h lt =
+      let r = runs numbers 0 ends k (lists-accepted numbers ends (lists-from numbers 0 ends) (passed h) .hold) lt in
+      let here : k < length (lists-from numbers 0 ends) = omega (arith, lists-length numbers 0 ends) in
+      record {
+        order = r .order;
+        inside = r .inside;
+        is = rw (passed h, lt-ltb k (length (lists-from numbers 0 ends)) here, r .many);
+      }
+
+  -- the part lies inside the numbers, whatever is lent
+  pub span-inside : span-of numbers ends k .start + span-of numbers ends k .size ≤ length numbers
+  unfolding number-of
+  span-inside = go (lists-of numbers ends) refl
+    where
+      go : (o : Outcome (List (List ℕ))) → lists-of numbers ends ≡ o → span-of numbers ends k .start + span-of numbers ends k .size ≤ length numbers
+      go (refused n) e = rw (part-refused numbers ends k n e) (omega arith)
+      go (accepted ls) e = split _ k (length ends)
+          (λ lt. let t = span-there (ap number-of e) lt in rw (t .is) (omega (arith, t .order, t .inside)))
+          (λ ge. rw (span-missing (ap number-of e) ge) (omega arith))

@@ -1,0 +1,158 @@
+// Lists lent as one row of numbers and one end for each: whether 7, 10 or 11 refuses them, and the part of one list.
+
+ghost use mathlib.Core.Path.{_≡_};
+ghost use mathlib.Core.Bool.{true};
+ghost use mathlib.Core.List.{_∷_};
+ghost use Prim.Native.Nat.{_≤_};
+ghost use denote.Ref.{ptr};
+ghost use lib.ListN.{length, getD};
+ghost use Rattle.model.specs.Outcome.{number-of};
+ghost use Rattle.model.specs.Lists.{all-ascending, lists-from, ends-hold, lists-of, span-of, part-of};
+ghost use Rattle.lists.specs.Rise.{rise, rise-says};
+ghost use Rattle.lists.specs.Place.{element-at};
+ghost use Rattle.lists.specs.Span.{span-says};
+
+// What one list's numbers do: they ascend strictly, with the largest gap minus 1 (0 for fewer than two numbers), or
+// they do not.
+pub enum Rise {
+    Ascending(u32),
+    Falls,
+}
+
+// Where a list's part stands in the lent numbers, and its length.
+pub struct Span {
+    pub start: usize,
+    pub size: usize,
+}
+
+// One pass over one list.
+pub fn rise_of(list: &[u32]) -> Rise
+    ensures { λ r. ⌜ rise-says r ≡ rise (now (list .entry)) ⌝ }
+{
+    if list.len() == 0 {
+        return Rise::Ascending(0);
+    }
+    let mut last = list[0];
+    let mut largest: u32 = 0;
+    let mut i: usize = 1;
+    while i < list.len() {
+        let x = list[i];
+        if x <= last {
+            return Rise::Falls;
+        }
+        let gap = x - last - 1;
+        if largest < gap {
+            largest = gap;
+        }
+        last = x;
+        i += 1;
+    }
+    Rise::Ascending(largest)
+}
+
+// An end as an index.
+fn wide(x: u32) -> usize
+    ensures { λ r. ⌜ r ≡ x ⌝ }
+{
+    x as usize
+}
+
+// 10 does not apply, with a row of so many numbers.
+pub fn ends_hold(size: usize, ends: &[u32]) -> bool
+    ensures { λ r. ⌜ r ≡ ends-hold size 0 (now (ends .entry)) ⌝ }
+{
+    let mut start: usize = 0;
+    let mut i: usize = 0;
+    while i < ends.len() {
+        let stop = wide(ends[i]);
+        if stop < start {
+            return false;
+        }
+        if size < stop {
+            return false;
+        }
+        if 65535 < stop - start {
+            return false;
+        }
+        start = stop;
+        i += 1;
+    }
+    true
+}
+
+// 11 does not apply, where 10 does not.
+fn all_ascending(numbers: &[u32], ends: &[u32]) -> bool
+    requires { ⌜ ends-hold (length (now numbers)) 0 (now ends) ≡ true ⌝ }
+    ensures { λ r. ⌜ r ≡ all-ascending (lists-from (now (numbers .entry)) 0 (now (ends .entry))) ⌝ }
+{
+    let mut start: usize = 0;
+    let mut i: usize = 0;
+    while i < ends.len() {
+        let stop = wide(ends[i]);
+        let Rise::Ascending(_) = rise_of(&numbers[start..stop]) else {
+            return false;
+        };
+        start = stop;
+        i += 1;
+    }
+    true
+}
+
+// The first of 7, 10 and 11 that refuses the lists, or 0.
+pub fn test_lists(numbers: &[u32], ends: &[u32]) -> u32
+    ensures { λ r. ⌜ r ≡ number-of (lists-of (now (numbers .entry)) (now (ends .entry))) ⌝ }
+{
+    if ends.len() < 1 {
+        return 7;
+    }
+    if 32 < ends.len() {
+        return 7;
+    }
+    if !ends_hold(numbers.len(), ends) {
+        return 10;
+    }
+    if !all_ascending(numbers, ends) {
+        return 11;
+    }
+    0
+}
+
+// Where list k starts: at the end of the list before it, the first one at 0.
+fn start_of(ends: &[u32], k: usize) -> usize
+    requires { ⌜ k ≤ length (now ends) ⌝ }
+    ensures { λ r. ⌜ r ≡ getD (0 ∷ now (ends .entry)) k 0 ⌝ }
+{
+    if k == 0 {
+        return 0;
+    }
+    wide(ends[k - 1])
+}
+
+// Where list k's part stands; the empty part at the start where 7, 10 or 11 would apply or there is no list k.
+pub fn list_span(numbers: &[u32], ends: &[u32], k: usize) -> Span
+    ensures { λ r. ⌜ span-says r ≡ span-of (now (numbers .entry)) (now (ends .entry)) k ⌝ }
+{
+    if test_lists(numbers, ends) != 0 {
+        return Span { start: 0, size: 0 };
+    }
+    if ends.len() <= k {
+        return Span { start: 0, size: 0 };
+    }
+    let start = start_of(ends, k);
+    let stop = wide(ends[k]);
+    Span {
+        start,
+        size: stop - start,
+    }
+}
+
+// List k's part of the lent numbers itself: its numbers, and where it points.
+pub fn list_part<'a>(numbers: &'a [u32], ends: &[u32], k: usize) -> &'a [u32]
+    ensures part { λ r. ⌜ now r ≡ part-of (now (numbers .entry)) (now (ends .entry)) k ⌝ }
+    ensures place { λ r. ⌜ ptr r ≡ element-at (ptr (numbers .entry)) (span-of (now (numbers .entry)) (now (ends .entry)) k .start) ⌝ }
+{
+    let span = list_span(numbers, ends, k);
+    let from = span.start;
+    let to = from + span.size;
+    &numbers[from..to]
+}
