@@ -54,7 +54,7 @@ unfolding rises
 rises-up x [] n h = tt
 rises-up x (y ∷ ys) n h = let p = and-true (ltb x y) (rises y ys) h in (ltb-true x y (p .0), n 0, rises-up y ys (λ i. n (suc i)) (p .1))
 
-ascending-up : (l : List ℕ) → Numbers l → ascending l ≡ true → Up 0 l
+pub ascending-up : (l : List ℕ) → Numbers l → ascending l ≡ true → Up 0 l
 unfolding ascending
 ascending-up [] n h = tt
 ascending-up (x ∷ xs) n h = (omega arith, n 0, rises-up x xs (λ i. n (suc i)) h)

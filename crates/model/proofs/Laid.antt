@@ -10,12 +10,12 @@ use borrow.Author.Tests.{le-leb, lt-ltb, le-ltb, leb-true}
 use lib.ListN.{length, getD, take, drop, length-append, length-take, length-drop}
 use lib.Seq.{take-at, drop-at}
 use Rattle.model.specs.Outcome.{refused, accepted}
-use Rattle.model.specs.Lists.{Numbers, all-ascending, part, lists-from, count-holds, ends-hold, lists-of, or-empty, span-of, part-of}
+use Rattle.model.specs.Lists.{Numbers, ascending, all-ascending, part, lists-from, count-holds, ends-hold, lists-of, or-empty, span-of, part-of}
 use Rattle.model.specs.Sets.{all-numbers}
 use Rattle.model.specs.Calls.{ends-from}
 use Rattle.model.proofs.Order.{and-true, Up}
 use Rattle.model.proofs.Denoted.{up-ascending}
-use Rattle.model.proofs.Accepted.{lists-accepted}
+use Rattle.model.proofs.Accepted.{numbers-part, ascending-up, lists-accepted}
 use Rattle.model.proofs.Deliveries.{Storable}
 
 -- behind a row `before`, and with anything after them
@@ -69,12 +69,38 @@ unfolding all-numbers
 laid-numbers [] s i = omega arith
 laid-numbers (l ∷ ls) s i = numbers-append l (all-numbers ls) (up-numbers 0 l (s .0 .0)) (laid-numbers ls (s .1)) i
 
--- lists that a delivery can hold, laid one after the other, are accepted as those lists
-pub laid : (ls : List (List ℕ)) → count-holds (length ls) ≡ true → Storable ls → lists-of (all-numbers ls) (ends-from 0 ls) ≡ accepted ls
+pub lists-length : (numbers : List ℕ) (start : ℕ) (ends : List ℕ) → length (lists-from numbers start ends) ≡ length ends
+unfolding lists-from
+lists-length numbers start [] = refl
+lists-length numbers start (stop ∷ ends) = ap suc (lists-length numbers stop ends)
+
+-- lists that a delivery can hold, laid one after the other, are accepted as those lists, whatever stands behind them
+pub laid-over : (ls : List (List ℕ)) (rest : List ℕ) → count-holds (length ls) ≡ true → Storable ls → lists-of (all-numbers ls ++ rest) (ends-from 0 ls) ≡ accepted ls
 unfolding lists-of
-laid ls c s =
-    let e : lists-from (all-numbers ls) 0 (ends-from 0 ls) ≡ ls = ap (λ (r : List ℕ). lists-from r 0 (ends-from 0 ls)) (sym (append-nil (all-numbers ls))) ∙ laid-from [] ls [] in
-    rw (ends-length 0 ls, c, laid-ends (length (all-numbers ls)) 0 ls s (omega arith), e, laid-rise ls s)
+laid-over ls rest c s =
+    rw (ends-length 0 ls, c, laid-ends (length (all-numbers ls ++ rest)) 0 ls s (omega (arith, length-append (all-numbers ls) rest)), laid-from [] ls rest, laid-rise ls s)
+
+pub laid : (ls : List (List ℕ)) → count-holds (length ls) ≡ true → Storable ls → lists-of (all-numbers ls) (ends-from 0 ls) ≡ accepted ls
+laid ls c s = ap (λ (r : List ℕ). lists-of r (ends-from 0 ls)) (sym (append-nil (all-numbers ls))) ∙ laid-over ls [] c s
+
+-- and accepted lists are such lists
+lists-storable : (numbers : List ℕ) (start : ℕ) (ends : List ℕ) → Numbers numbers → ends-hold (length numbers) start ends ≡ true → all-ascending (lists-from numbers start ends) ≡ true → Storable (lists-from numbers start ends)
+unfolding lists-from ends-hold all-ascending part
+lists-storable numbers start [] n h r = tt
+lists-storable numbers start (stop ∷ ends) n h r =
+    let a = and-true (leb start stop) _ h in
+    let b = and-true (leb stop (length numbers)) _ (a .1) in
+    let c = and-true (leb (stop - start) 65535) _ (b .1) in
+    let l : List ℕ = take (stop - start) (drop start numbers) in
+    let up = and-true (ascending l) (all-ascending (lists-from numbers stop ends)) r in (
+      (ascending-up l (numbers-part numbers (stop - start) start n) (up .0), omega (arith, length-take (stop - start) (drop start numbers), leb-true (stop - start) 65535 (c .0))),
+      lists-storable numbers stop ends n (c .1) (up .1),
+    )
+
+pub storable-accepted : (numbers ends : List ℕ) (ls : List (List ℕ)) → Numbers numbers → lists-of numbers ends ≡ accepted ls → Storable ls × (count-holds (length ls) ≡ true)
+storable-accepted numbers ends ls n e =
+    let a = lists-accepted numbers ends ls e in
+    rw (← a .are) (lists-storable numbers 0 ends n (a .hold) (a .rise), ap count-holds (lists-length numbers 0 ends) ∙ a .count)
 
 -- ---- the part of list k
 
@@ -92,11 +118,6 @@ starts numbers start (stop ∷ ends) (suc k) h lt =
     let b = and-true (leb stop (length numbers)) _ (a .1) in
     let c = and-true (leb (stop - start) 65535) _ (b .1) in
     starts numbers stop ends k (c .1) (omega arith)
-
-pub lists-length : (numbers : List ℕ) (start : ℕ) (ends : List ℕ) → length (lists-from numbers start ends) ≡ length ends
-unfolding lists-from
-lists-length numbers start [] = refl
-lists-length numbers start (stop ∷ ends) = ap suc (lists-length numbers stop ends)
 
 -- list k itself, of accepted lists that have it
 pub part-is : (numbers ends : List ℕ) (ls : List (List ℕ)) (k : ℕ) → lists-of numbers ends ≡ accepted ls → k < length ls → part-of numbers ends k ≡ getD ls k []

@@ -19,3 +19,5 @@ pub mod Trees
 pub mod Shape
 pub mod Sources
 pub mod Replies
+pub mod Told
+pub mod RoundTrips

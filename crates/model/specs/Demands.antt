@@ -1,4 +1,4 @@
--- What the theorems speak of, and demand 3 as one statement.
+-- What the theorems speak of; demand 2's stored forms, and demand 3 as one statement.
 use mathlib.Core.Path.{_≡_}
 use mathlib.Core.Bool.{true, _&&_}
 use mathlib.Core.List.{List, [], _∷_, _++_, map}
@@ -6,15 +6,16 @@ use Prim.Native.Nat.{ℕ, suc, _+_, _-_, _^_, _≤_, _<_}
 use lib.Dec.{leb}
 use lib.ListN.{length, getD, take, drop, replicate}
 use Rattle.model.specs.declared.Reply.the-variants.{Member, Finished}
-use Rattle.model.specs.Outcome.{accepted}
-use Rattle.model.specs.Lists.{top, Numbers, ascending}
+use Rattle.model.specs.Outcome.{Outcome, accepted, Sent}
+use Rattle.model.specs.Lists.{top, Numbers, ascending, lists-of}
 use Rattle.model.specs.Expression.{Tree, leaf, difference, union, intersection, Members, one, more, size, depth, count}
 use Rattle.model.specs.Sets.{among, member, all-numbers}
 use Rattle.model.specs.Machine.{calls, machine}
 use Rattle.model.specs.Run.{Result, run, Source, source-of, run-of}
+use Rattle.model.specs.Fields.{Bytes}
 use Rattle.model.specs.Forms.{read-packed}
 use Rattle.model.specs.Delivery.{read-delivery}
-use Rattle.model.specs.Calls.{ends-from}
+use Rattle.model.specs.Calls.{ends-from, unpack-expression, pack-expression, decode-delivery, encode-delivery}
 use Rattle.model.specs.Program.{halves, Listing}
 
 -- the list numbers at the leaves, in expression order: "One list may stand at several leaves"
@@ -69,6 +70,35 @@ pub record Least-width (m w : ℕ) : Type 0 where
   pub one : 1 ≤ w
   pub holds : m < 2 ^ w
   pub least : (k : ℕ) → 1 ≤ k → m < 2 ^ k → w ≤ k
+
+-- ---- demand 2, the stored forms, about the calls: "What is written from a row or from lists reads back the same, and
+-- accepted bytes are written back the same"
+
+-- what a call has written into its first lent row, and the lists that reading a delivery has left in its two
+abbrev pub wrote : Sent → List ℕ
+wrote s = take (getD (s .parts) 0 0) (getD (s .rows) 0 [])
+
+abbrev pub lists-read : Sent → Outcome (List (List ℕ))
+lists-read s = lists-of (getD (s .rows) 0 []) (take (getD (s .parts) 0 0) (getD (s .rows) 1 []))
+
+-- a call that has written these elements into its one lent row, and nothing behind them
+abbrev pub wrote-all : List ℕ → List ℕ → Sent
+wrote-all xs lent = record { number = 0; parts = length xs ∷ []; rows = (xs ++ drop (length xs) lent) ∷ [] }
+
+pub record Second-demand : Type 0 where
+  -- an expression packed and unpacked again, into any row that is long enough, is the row that it was
+  pub row-reads-back : (row : List ℕ) (lists : ℕ) (bytes lent : List ℕ) → pack-expression row lists bytes .number ≡ 0 → length row ≤ length lent
+      → unpack-expression (wrote (pack-expression row lists bytes)) lists lent ≡ wrote-all row lent
+  -- bytes unpacked and packed again are the bytes that they were
+  pub packed-written-back : (bytes : List ℕ) (lists : ℕ) (row lent : List ℕ) → Bytes bytes → unpack-expression bytes lists row .number ≡ 0 → length bytes ≤ length lent
+      → pack-expression (wrote (unpack-expression bytes lists row)) lists lent ≡ wrote-all bytes lent
+  -- lists written as a delivery and read again, into rows that are long enough, are the lists that they were
+  pub lists-read-back : (numbers ends bytes lent-numbers lent-ends : List ℕ) → Numbers numbers → (ls : List (List ℕ)) → lists-of numbers ends ≡ accepted ls
+      → encode-delivery numbers ends bytes .number ≡ 0 → length (all-numbers ls) ≤ length lent-numbers → length ls ≤ length lent-ends
+      → let s = decode-delivery (wrote (encode-delivery numbers ends bytes)) lent-numbers lent-ends in (s .number ≡ 0) × (lists-read s ≡ accepted ls)
+  -- a delivery read and written again is the bytes that it was
+  pub delivery-written-back : (bytes lent-numbers lent-ends lent : List ℕ) → Bytes bytes → decode-delivery bytes lent-numbers lent-ends .number ≡ 0 → length bytes ≤ length lent
+      → let s = decode-delivery bytes lent-numbers lent-ends in encode-delivery (getD (s .rows) 0 []) (take (getD (s .parts) 0 0) (getD (s .rows) 1 [])) lent ≡ wrote-all bytes lent
 
 -- ---- demand 3, in the customer's sentences, over any lists and expression that nobody changes meanwhile
 module _ (numbers ends expression : List ℕ) where

@@ -1,0 +1,141 @@
+-- A refusal's number is never 0, so a call that hands back 0 has accepted: by the lines of each `do` block. Assumes nothing.
+use mathlib.Core.Path.{_≡_, refl, sym}
+use mathlib.Core.Bool.{Bool, true, false, _&&_, cond}
+use mathlib.Core.List.{List, [], _∷_}
+use Prim.Native.Nat.{ℕ, zero, suc, _+_, _-_, _≤_}
+use native.Mathlib.Omega.{arith}
+use lib.Dec.{ltb, leb, eqb}
+use lib.ListN.{length}
+use Rattle.model.specs.declared.Node.{Node}
+use Rattle.model.specs.declared.Node.the-variants.{Leaf, Difference, Union, Intersection}
+use Rattle.model.specs.Outcome.{Outcome, refused, accepted, _>>=_, _>>_, require, Success, sent}
+use Rattle.model.specs.Lists.{top, all-ascending, lists-from, count-holds, ends-hold, lists-of}
+use Rattle.model.specs.Expression.{Tree}
+use Rattle.model.specs.Fields.{bits, take-field, only-fill}
+use Rattle.model.specs.Forms.{node-of, take-byte, take-rest, take-kind, take-node, read-members, operator, read-below, read-tree, read-row, read-packed}
+use Rattle.model.proofs.Accepted.{never-accepted}
+use Rattle.model.specs.Delivery.{largest-gap, width, read-gaps, read-later, read-body, read-list, read-lists, read-delivery}
+
+pub record Told {A : Type 0} (o : Outcome A) : Type 0 where
+  pub never : (n : ℕ) → o ≡ refused n → 1 ≤ n
+
+pub told-right : {A : Type 0} {a : A} → Told (accepted a)
+told-right = record { never = λ n e. never-accepted (sym e) }
+
+pub told-by : {A : Type 0} {n : ℕ} → 1 ≤ n → Told {A = A} (refused n)
+told-by {A} {n} h = record { never = λ m e. let same : n ≡ m = cc in omega arith }
+
+pub told-then : {A B : Type 0} (o : Outcome A) (f : A → Outcome B) → Told o → ((a : A) → Told (f a)) → Told (o >>= f)
+told-then (refused n) f h g = told-by (h .never n refl)
+told-then (accepted a) f h g = g a
+
+pub told-test : {B : Type 0} (n : ℕ) (b : Bool) (o : Outcome B) → 1 ≤ n → Told o → Told (require n b >> o)
+told-test n true o h g = g
+told-test n false o h g = told-by h
+
+-- what a call that hands back 0 has accepted
+pub record Success-of {A : Type 0} (o : Outcome A) : Type 0 where
+  pub got : A
+  pub is : o ≡ accepted got
+
+pub succeeded : (parts : ℕ) (rows : List (List ℕ)) (o : Outcome Success) → Told o → sent parts rows o .number ≡ 0 → Success-of o
+unfolding sent
+succeeded parts rows (refused n) t e = absurd (omega (arith, t .never n refl))
+succeeded parts rows (accepted s) t e = record { got = s; is = refl }
+
+pub lists-told : (numbers ends : List ℕ) → Told (lists-of numbers ends)
+unfolding lists-of
+lists-told numbers ends = told-test 7 (count-holds (length ends)) _ (omega arith) (told-test 10 (ends-hold (length numbers) 0 ends) _ (omega arith) (told-test 11 (all-ascending (lists-from numbers 0 ends)) _ (omega arith) told-right))
+
+-- ---- expressions
+
+module _ {S : Type 0} (lists : ℕ) (take-one : S → Outcome (Node × S)) (one-told : (s : S) → Told (take-one s)) where
+  members-told : (tree : ℕ → S → Outcome (Tree × ℕ × S)) → ((done : ℕ) (s : S) → Told (tree done s)) → (n done : ℕ) (s : S) → Told (read-members lists take-one tree n done s)
+  unfolding read-members
+  members-told tree h zero done s = told-then (tree done s) _ (h done s) (λ r. told-right)
+  members-told tree h (suc n) done s = told-then (tree done s) _ (h done s) (λ r. told-then (read-members lists take-one tree n (r .1) (r .2)) _ (members-told tree h n (r .1) (r .2)) (λ q. told-right))
+
+  below-told : (tree : ℕ → S → Outcome (Tree × ℕ × S)) → ((done : ℕ) (s : S) → Told (tree done s)) → (node : Node) (done : ℕ) (s : S) → Told (read-below lists take-one tree node done s)
+  unfolding read-below operator
+  below-told tree h (Leaf k) done s = told-test 4 (ltb k lists) _ (omega arith) told-right
+  below-told tree h Difference done s = told-then (tree done s) _ (h done s) (λ r. told-then (tree (r .1) (r .2)) _ (h (r .1) (r .2)) (λ q. told-right))
+  below-told tree h (Union n) done s = told-then (read-members lists take-one tree (n - 1) done s) _ (members-told tree h (n - 1) done s) (λ r. told-right)
+  below-told tree h (Intersection n) done s = told-then (read-members lists take-one tree (n - 1) done s) _ (members-told tree h (n - 1) done s) (λ r. told-right)
+
+  tree-told : (d done : ℕ) (s : S) → Told (read-tree lists take-one d done s)
+  unfolding read-tree
+  tree-told zero done s = told-test 2 (ltb done 48) _ (omega arith) (told-by {n = 3} (omega arith))
+  tree-told (suc d) done s = told-test 2 (ltb done 48) _ (omega arith) (told-then (take-one s) _ (one-told s) (λ r. below-told (read-tree lists take-one d) (tree-told d) (r .0) (suc done) (r .1)))
+
+node-told : (b : ℕ) → Told (node-of b)
+unfolding node-of
+node-told b =
+    told-if (leb b 31) (Leaf b) _ (told-if (eqb b 64) Difference _ (told-if (leb 129 b && leb b 136) (Union (b - 128)) _ (told-if (leb 193 b && leb b 200) (Intersection (b - 192)) _ (told-by {n = 14} (omega arith)))))
+  where
+    told-if : (t : Bool) (node : Node) (o : Outcome Node) → Told o → Told (cond t (accepted node) o)
+    told-if true node o h = told-right
+    told-if false node o h = h
+
+byte-told : (bs : List ℕ) → Told (take-byte bs)
+unfolding take-byte
+byte-told [] = told-by {n = 1} (omega arith)
+byte-told (b ∷ bs) = told-then (node-of b) _ (node-told b) (λ n. told-right)
+
+pub row-told : (lists : ℕ) (bs : List ℕ) → Told (read-row lists bs)
+unfolding read-row
+row-told lists bs = told-then (read-tree lists take-byte 12 0 bs) _ (tree-told lists take-byte byte-told 12 0 bs) (λ r. told-test 5 (eqb (length (r .2)) 0) _ (omega arith) told-right)
+
+field-told : (w : ℕ) (bs : List Bool) → Told (take-field w bs)
+unfolding take-field
+field-told w bs = told-test 1 (leb w (length bs)) _ (omega arith) told-right
+
+rest-told : (w : ℕ) (of : ℕ → Node) (bs : List Bool) → Told (take-rest take-field w of bs)
+unfolding take-rest
+rest-told w of bs = told-then (take-field w bs) _ (field-told w bs) (λ r. told-right)
+
+kind-told : (kind : ℕ) (bs : List Bool) → Told (take-kind take-field kind bs)
+unfolding take-kind
+kind-told zero bs = rest-told 5 Leaf bs
+kind-told (suc zero) bs = told-right
+kind-told (suc (suc zero)) bs = rest-told 3 _ bs
+kind-told (suc (suc (suc kind))) bs = rest-told 3 _ bs
+
+packed-node-told : (bs : List Bool) → Told (take-node take-field bs)
+unfolding take-node
+packed-node-told bs = told-then (take-field 2 bs) _ (field-told 2 bs) (λ r. kind-told (r .0) (r .1))
+
+pub packed-told : (lists : ℕ) (bs : List ℕ) → Told (read-packed lists bs)
+unfolding read-packed
+packed-told lists bs = told-then (read-tree lists (take-node take-field) 12 0 (bits bs)) _ (tree-told lists (take-node take-field) packed-node-told 12 0 (bits bs)) (λ r. told-test 5 (only-fill (r .2)) _ (omega arith) told-right)
+
+-- ---- deliveries
+
+gaps-told : (w n last : ℕ) (bs : List Bool) → Told (read-gaps take-field w n last bs)
+unfolding read-gaps
+gaps-told w zero last bs = told-right
+gaps-told w (suc n) last bs = told-then (take-field w bs) _ (field-told w bs) (λ r. told-test 8 (ltb (last + r .0 + 1) top) _ (omega arith) (told-then (read-gaps take-field w n (last + r .0 + 1) (r .1)) _ (gaps-told w n (last + r .0 + 1) (r .1)) (λ q. told-right)))
+
+later-told : (n first : ℕ) (bs : List Bool) → Told (read-later take-field n first bs)
+unfolding read-later
+later-told zero first bs = told-right
+later-told (suc n) first bs = told-then (take-field 5 bs) _ (field-told 5 bs) (λ r. told-then (read-gaps take-field (r .0 + 1) (suc n) first (r .1)) _ (gaps-told (r .0 + 1) (suc n) first (r .1)) (λ q. told-test 9 (eqb (r .0 + 1) (width (largest-gap first (q .0)))) _ (omega arith) told-right))
+
+body-told : (n : ℕ) (bs : List Bool) → Told (read-body take-field n bs)
+unfolding read-body
+body-told zero bs = told-right
+body-told (suc n) bs = told-then (take-field 32 bs) _ (field-told 32 bs) (λ r. told-then (read-later take-field n (r .0) (r .1)) _ (later-told n (r .0) (r .1)) (λ q. told-right))
+
+list-told : (room : ℕ) (bs : List Bool) → Told (read-list take-field room bs)
+unfolding read-list
+list-told room bs = told-then (take-field 16 bs) _ (field-told 16 bs) (λ r. told-test 6 (leb (r .0) room) _ (omega arith) (body-told (r .0) (r .1)))
+
+lists-read-told : (n room : ℕ) (bs : List Bool) → Told (read-lists take-field n room bs)
+unfolding read-lists
+lists-read-told zero room bs = told-right
+lists-read-told (suc n) room bs = told-then (read-list take-field room bs) _ (list-told room bs) (λ r. told-then (read-lists take-field n (room - length (r .0)) (r .1)) _ (lists-read-told n (room - length (r .0)) (r .1)) (λ q. told-right))
+
+pub delivery-told : (numbers-room ends-room : ℕ) (bs : List ℕ) → Told (read-delivery numbers-room ends-room bs)
+unfolding read-delivery
+delivery-told numbers-room ends-room bs =
+    told-then (take-field 6 (bits bs)) _ (field-told 6 (bits bs)) (λ r. told-test 7 (count-holds (r .0)) _ (omega arith) (told-test 6 (leb (r .0) ends-room) _ (omega arith)
+    (told-then (read-lists take-field (r .0) numbers-room (r .1)) _ (lists-read-told (r .0) numbers-room (r .1)) (λ q. told-test 5 (only-fill (q .1)) _ (omega arith) told-right))))
