@@ -1,17 +1,17 @@
 -- Where reading at a bit position gets to, and the bounds of what it finds: so positions never leave a machine word, and
 -- never pass the delivery's end. Assumes nothing.
 use mathlib.Core.Path.{_≡_, refl, sym, ap, _∙_, subst}
-use mathlib.Core.List.{List, [], _∷_}
-use Prim.Native.Nat.{ℕ, zero, suc, _+_, _-_, _*_, _^_, _≤_, _<_}
+use mathlib.Core.List.{List}
+use Prim.Native.Nat.{ℕ, zero, suc, _+_, _-_, _*_, _≤_, _<_}
 use native.Mathlib.Nat.{mul-suc, mul-zero, mul-le-mul-right}
 use native.Mathlib.Omega.{arith}
 use lib.Dec.{ltb, leb, eqb}
 use lib.ListN.{length}
 use borrow.Author.Tests.{leb-true, ltb-true}
-use Rattle.model.specs.Outcome.{Outcome, refused, accepted, _>>=_, _>>_, require}
+use Rattle.model.specs.Outcome.{accepted}
 use Rattle.model.specs.Lists.{top}
 use Rattle.model.specs.Delivery.{largest-gap, width, read-gaps, read-list, read-lists}
-use Rattle.model.proofs.Accepted.{accepted-same, never-accepted, bound, required}
+use Rattle.model.proofs.Accepted.{accepted-same, bound, required}
 use Rattle.fields.specs.Positions.{take-at}
 use Rattle.fields.proofs.Fields.{took}
 use Rattle.decode.specs.Heads.{Header, header-width, header-first, header, gap}

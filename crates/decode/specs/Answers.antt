@@ -5,7 +5,6 @@ use Prim.Native.Nat.{ℕ}
 use lib.ListN.{length}
 use Rattle.model.specs.Outcome.{Outcome, refused, accepted}
 use Rattle.model.specs.Sets.{all-numbers}
-use Rattle.model.specs.Delivery.{largest-gap}
 use Rattle.model.specs.declared.Delivered.{Delivered}
 use Rattle.decode.specs.declared.Head.{Head}
 use Rattle.decode.specs.declared.Head.the-variants.{Header as HeaderOf, Refused as NoHeader}

@@ -1,24 +1,23 @@
 -- The bits of a list by its length, and the width of its gaps. Assumes nothing.
-use mathlib.Core.Path.{_≡_, refl, sym, ap, ap₂, _∙_}
-use mathlib.Core.Bool.{Bool, true, _&&_}
+use mathlib.Core.Path.{_≡_, refl, sym, ap, _∙_}
+use mathlib.Core.Bool.{Bool, true}
 use mathlib.Core.List.{List, [], _∷_, _++_, append-nil}
-use Prim.Native.Nat.{ℕ, zero, suc, _+_, _-_, _*_, _^_, _≤_, _<_, max}
+use Prim.Native.Nat.{ℕ, zero, suc, _+_, _-_, _*_, _^_, _≤_, _<_}
 use native.Mathlib.Nat.{mul-suc, mul-zero, mul-le-mul-left, mul-le-mul-right}
 use native.Mathlib.Numerals.{add-one}
 use native.Mathlib.Omega.{arith}
 use lib.Dec.{ltb}
 use lib.ListN.{length, getD, drop, length-append}
 use borrow.Author.Tests.{ltb-true}
-use Rattle.model.specs.Outcome.{Outcome, accepted, _>>_, require}
+use Rattle.model.specs.Outcome.{accepted}
 use Rattle.model.specs.Lists.{top, Numbers, rises, ascending}
 use Rattle.model.specs.Fields.{field}
 use Rattle.model.specs.Delivery.{largest-gap, width, gap-bits, later-bits, body-bits, list-bits}
-use Rattle.model.specs.Demands.{Least-width}
 use Rattle.model.proofs.Order.{and-true}
 use Rattle.model.proofs.Accepted.{required, accepted-same}
 use Rattle.model.proofs.Bits.{field-length}
 use Rattle.model.proofs.Deliveries.{width-is}
-use Rattle.lists.specs.Rise.{largest, rise, rise-says}
+use Rattle.lists.specs.Rise.{largest, rise}
 use Rattle.encode.specs.Measures.{gap-width, list-size}
 
 -- ---- the gaps

@@ -1,17 +1,17 @@
 -- Writing a delivery whole: what each outcome of the tests hands back, how long a delivery is, and that the three pieces that
 -- are put make it. Assumes nothing.
-use mathlib.Core.Path.{_≡_, refl, sym, ap, ap₂, _∙_}
-use mathlib.Core.Bool.{Bool, true, false, _&&_}
+use mathlib.Core.Path.{_≡_, ap₂, _∙_}
+use mathlib.Core.Bool.{Bool, true, false}
 use mathlib.Core.List.{List, [], _∷_, _++_}
 use Prim.Native.Nat.{ℕ, _+_, _-_, _*_, _/_, _≤_, _<_}
 use native.Mathlib.Omega.{arith}
 use lib.Dec.{leb}
-use lib.ListN.{length, getD, drop, length-append, length-take}
+use lib.ListN.{length, drop, length-append, length-take}
 use borrow.Author.Tests.{le-leb, lt-leb, leb-true}
-use Rattle.model.specs.Outcome.{Outcome, refused, accepted, require, over, sent}
+use Rattle.model.specs.Outcome.{over, sent}
 use Rattle.model.specs.Lists.{Numbers, all-ascending, part, lists-from, count-holds, ends-hold, lists-of}
 use Rattle.model.specs.Fields.{Bytes, field, bytes}
-use Rattle.model.specs.Delivery.{list-bits, lists-bits, delivery}
+use Rattle.model.specs.Delivery.{lists-bits, delivery}
 use Rattle.model.specs.Calls.{written, encode-delivery}
 use Rattle.model.proofs.Order.{and-true}
 use Rattle.model.proofs.Accepted.{numbers-part}

@@ -1,7 +1,7 @@
 // Reading an expression in either stored form, into one byte a node: "At each node: 2, 3, 1, then 4 (in a row also 14).
 // After the last: 5".
 ghost use mathlib.Core.Path.{_≡_};
-ghost use Prim.Native.Nat.{ℕ, _*_, _^_, _≤_, _<_};
+ghost use Prim.Native.Nat.{_*_, _^_, _≤_, _<_};
 ghost use lib.ListN.{length};
 ghost use Rattle.model.specs.Outcome.{refused as refusal, number-of};
 ghost use Rattle.model.specs.Forms.{row-byte, node-of, take-node};

@@ -7,13 +7,13 @@ use Prim.Native.Nat.{ℕ, zero, suc, _+_, _-_, _*_, _/_, _%_, _^_, _≤_, _<_}
 use native.Mathlib.Nat.{add-assoc, add-comm, zero-add, zero-mul, mul-assoc}
 use native.Mathlib.Omega.{arith}
 use lib.Dec.{leb, eqb}
-use lib.Pow.{pow-pos, pow-add, shr-shr, high, low, split}
-use lib.ListN.{length, getD, take, drop, length-append, length-take, length-drop}
-use lib.Seq.{take-add, drop-drop, drop-nil, take-nil, take-append-add, drop-append-add, take-suc}
+use lib.Pow.{pow-pos, pow-add, shr-shr, high, low}
+use lib.ListN.{length, take, drop, length-append, length-take, length-drop}
+use lib.Seq.{take-add, drop-drop, drop-nil, take-nil, take-append-add, drop-append-add}
 use Rattle.model.specs.Outcome.{accepted, require, _>>_}
-use Rattle.model.specs.Fields.{Bytes, field, bits, value, take-field, zeros}
+use Rattle.model.specs.Fields.{field, bits, value, take-field, zeros}
 use Rattle.model.proofs.Accepted.{value-lt, required, accepted-same}
-use Rattle.model.proofs.Bits.{field-length, field-high, field-value, value-field, bits-length}
+use Rattle.model.proofs.Bits.{field-length, field-high, value-field, bits-length}
 use Rattle.model.proofs.Sources.{seen, tested}
 use borrow.Author.Tests.{leb-true, ne-eqb}
 use Rattle.fields.specs.Positions.{take-at}

@@ -5,10 +5,9 @@ use mathlib.Core.Bool.{Bool, false}
 use mathlib.Core.List.{List, [], _∷_, _++_, append-assoc, append-nil}
 use Prim.Native.Nat.{ℕ, zero, suc, _+_, _-_, _*_, _/_, _%_, _^_, _≤_, _<_}
 use native.Mathlib.Nat.{zero-div, mod-lt, zero-lt-suc, lt-of-lt-of-le}
-use native.Mathlib.Numerals.{add-one}
 use native.Mathlib.Omega.{arith}
 use lib.Pow.{split, pow-mono}
-use lib.ListN.{length, getD, take, drop, set, replicate, length-append, length-replicate, length-take, length-drop}
+use lib.ListN.{length, take, drop, set, replicate, length-append, length-replicate, length-take, length-drop}
 use lib.Dec.{eqb}
 use lib.Seq.{set-split, getD-drop}
 use Rattle.model.specs.Fields.{Bytes, field, bits, value, fill, bytes}
@@ -17,7 +16,7 @@ use Rattle.model.proofs.Accepted.{value-lt}
 use Rattle.fields.specs.Rows.{lay}
 use Rattle.fields.specs.Positions.{put-bits}
 use Rattle.fields.proofs.Rows.{lay-nil, lay-length, lay-append, lay-around}
-use Rattle.fields.proofs.Fields.{value-append, field-split, field-join, bits-append, bits-drop, bits-take, before, behind, held, behind-length, field-there}
+use Rattle.fields.proofs.Fields.{field-split, field-join, bits-append, bits-drop, bits-take, before, behind, behind-length}
 
 -- whole bytes of bits
 bits-bytes : (bs : List Bool) (n : ℕ) → length bs ≡ 8 * n → bits (bytes bs) ≡ bs

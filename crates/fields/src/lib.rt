@@ -1,7 +1,7 @@
 // A field of 1 to 32 bits at a bit position, taken off a row of bytes and put into one: shifts and masks over the at most
 // five bytes that hold it. "Fields run on across byte borders, most significant bit first".
 ghost use mathlib.Core.Path.{_≡_};
-ghost use Prim.Native.Nat.{ℕ, _+_, _-_, _*_, _/_, _%_, _^_, _≤_, _<_};
+ghost use Prim.Native.Nat.{_+_, _-_, _*_, _/_, _%_, _^_, _≤_, _<_};
 ghost use lib.ListN.{length, take, drop};
 ghost use Rattle.model.specs.Fields.{bits, value, field, only-fill};
 ghost use Rattle.model.specs.Delivery.{width};

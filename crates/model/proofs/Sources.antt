@@ -2,9 +2,8 @@
 -- is alike. `see` says which place of the second source a place of the first is: a bit position, say, and the bits from
 -- there on. Each reading is a `do` block, so each proof follows its lines: `then` for a step, `tested` for a test.
 -- Assumes nothing.
-use mathlib.Core.Path.{_≡_, refl, sym, ap, _∙_}
-use mathlib.Core.Bool.{Bool, true, false, cond}
-use mathlib.Core.List.{List, [], _∷_}
+use mathlib.Core.Path.{_≡_, refl}
+use mathlib.Core.Bool.{Bool, true, false}
 use Prim.Native.Nat.{ℕ, zero, suc, _+_, _-_}
 use lib.Dec.{ltb, leb, eqb}
 use lib.ListN.{length}
@@ -12,7 +11,7 @@ use Rattle.model.specs.declared.Node.{Node}
 use Rattle.model.specs.declared.Node.the-variants.{Leaf, Difference, Union, Intersection}
 use Rattle.model.specs.Outcome.{Outcome, refused, accepted, _>>=_, _>>_, require}
 use Rattle.model.specs.Lists.{top}
-use Rattle.model.specs.Expression.{Tree, leaf, difference, union, intersection, Members, one, more}
+use Rattle.model.specs.Expression.{Tree, union, intersection, Members, one}
 use Rattle.model.specs.Forms.{take-rest, take-kind, take-node, read-members, operator, read-below, read-tree}
 use Rattle.model.specs.Delivery.{largest-gap, width, read-gaps, read-later, read-body, read-list, read-lists}
 

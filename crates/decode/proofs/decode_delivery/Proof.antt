@@ -1,22 +1,20 @@
 -- `decode::decode_delivery` meets its contract: test by test, in the order of `Delivery.read-delivery`; the rows are written only
 -- once all of it is known to read. Assumes nothing.
 use borrow.Author.Needs.{needs}
-use mathlib.Core.Path.{_≡_, refl, sym, ap, ap₂, _∙_}
-use mathlib.Core.Bool.{Bool, true, false, _&&_}
+use mathlib.Core.Path.{_≡_, sym, ap, ap₂, _∙_}
+use mathlib.Core.Bool.{true, false}
 use mathlib.Core.List.{List}
-use Prim.Native.Nat.{ℕ, _+_, _*_, _≤_, _<_}
+use Prim.Native.Nat.{ℕ, _*_, _≤_, _<_}
 use native.Mathlib.Omega.{arith}
-use lib.Dec.{leb}
 use lib.ListN.{length, drop}
 use borrow.Author.Tests.{le-leb, lt-leb}
-use Rattle.model.specs.Outcome.{Outcome, accepted, refused, _>>=_, _>>_, require}
+use Rattle.model.specs.Outcome.{Outcome, accepted, _>>=_, _>>_, require}
 use Rattle.model.specs.declared.Delivered.{Delivered}
 use Rattle.model.specs.Lists.{count-holds}
 use Rattle.model.specs.Fields.{bits, only-fill}
 use Rattle.model.specs.Sets.{all-numbers}
 use Rattle.model.specs.Delivery.{read-lists, read-delivery}
-use Rattle.model.specs.Calls.{delivered, ends-from}
-use Rattle.fields.specs.Rows.{lay}
+use Rattle.model.specs.Calls.{delivered}
 use Rattle.fields.specs.Positions.{take-at, field-says}
 use Rattle.fields.proofs.Fields.{took}
 use Rattle.decode.specs.Answers.{read-says, refused-walk, total}

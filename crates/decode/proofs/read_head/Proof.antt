@@ -1,9 +1,9 @@
 -- `decode::read_head` meets its contract: field by field, each test before the next field. Assumes nothing.
 use borrow.Author.Needs.{needs}
 use mathlib.Core.Path.{_≡_, sym, ap, _∙_}
-use Prim.Native.Nat.{ℕ, _+_, _-_, _*_, _≤_, _<_}
+use Prim.Native.Nat.{_+_, _-_}
 use native.Mathlib.Omega.{arith}
-use Rattle.model.specs.Outcome.{accepted, refused}
+use Rattle.model.specs.Outcome.{accepted}
 use Rattle.fields.specs.Positions.{take-at, field-says}
 use Rattle.fields.proofs.Fields.{took}
 use Rattle.decode.specs.Heads.{header, header-first}

@@ -1,12 +1,12 @@
 -- `decode::store_gaps` meets its contract. The loop's invariant, where the numbers read: those that are left read from here,
 -- and laying them from here on is laying all of them from the start. The measure is how many are left. Assumes nothing.
-use mathlib.Core.Path.{_≡_, refl, sym, ap, _∙_, subst}
-use mathlib.Core.List.{List, [], _∷_}
-use Prim.Native.Nat.{ℕ, _+_, _-_, _*_, _≤_, _<_}
+use mathlib.Core.Path.{_≡_, refl, sym, ap, _∙_}
+use mathlib.Core.List.{List, []}
+use Prim.Native.Nat.{ℕ, _+_, _-_, _*_, _≤_}
 use native.Mathlib.Omega.{arith}
-use lib.ListN.{length, set, length-set}
+use lib.ListN.{length, length-set}
 use borrow.Author.Needs.{needs}
-use Rattle.model.specs.Outcome.{accepted, refused}
+use Rattle.model.specs.Outcome.{accepted}
 use Rattle.model.specs.Delivery.{read-gaps}
 use Rattle.model.proofs.Accepted.{never-accepted, accepted-same}
 use Rattle.fields.specs.Rows.{lay}

@@ -2,12 +2,12 @@
 -- Assumes nothing.
 use borrow.Author.Needs.{needs}
 use mathlib.Core.Path.{_≡_, refl, sym, ap, _∙_}
-use mathlib.Core.List.{List, [], _∷_}
-use Prim.Native.Nat.{ℕ, _+_, _-_, _≤_, _<_}
+use mathlib.Core.List.{List}
+use Prim.Native.Nat.{ℕ, _+_, _-_, _≤_}
 use native.Mathlib.Omega.{arith}
 use lib.Dec.{eqb}
-use lib.ListN.{length, set, length-set}
-use Rattle.model.specs.Outcome.{accepted, refused}
+use lib.ListN.{length, length-set}
+use Rattle.model.specs.Outcome.{accepted}
 use Rattle.model.specs.Delivery.{largest-gap, width, read-gaps, read-list}
 use Rattle.model.proofs.Accepted.{never-accepted, accepted-same, bound, required}
 use Rattle.fields.specs.Rows.{lay}

@@ -2,21 +2,21 @@
 -- laying them and their ends from here on is laying all of them from the start. That they read is required, so positions
 -- and ends stay small. The measure is how many are left. Assumes nothing.
 use mathlib.Core.Path.{_≡_, refl, sym, ap, ap₂, _∙_, subst}
-use mathlib.Core.List.{List, [], _∷_, _++_}
+use mathlib.Core.List.{List, [], _∷_}
 use Prim.Native.Nat.{ℕ, _+_, _-_, _*_, _≤_, _<_}
 use native.Mathlib.Omega.{arith}
 use borrow.Author.Needs.{needs}
 use lib.ListN.{length, set, length-set}
 use Rattle.model.specs.Outcome.{accepted}
 use Rattle.model.specs.Sets.{all-numbers}
-use Rattle.model.specs.Delivery.{read-list, read-lists}
+use Rattle.model.specs.Delivery.{read-lists}
 use Rattle.model.specs.Calls.{ends-from}
 use Rattle.model.proofs.Accepted.{accepted-same}
 use Rattle.fields.specs.Rows.{lay}
 use Rattle.fields.specs.Positions.{take-at}
 use Rattle.fields.proofs.Rows.{lay-nil, lay-length, lay-append, lay-cons}
 use Rattle.decode.specs.declared.Stored.{Stored}
-use Rattle.decode.specs.Stores.{List-stored, Lists-read}
+use Rattle.decode.specs.Stores.{List-stored}
 use Rattle.decode.proofs.Reading.{lists-none, lists-first}
 use Rattle.decode.proofs.Bounds.{list-next}
 use Rattle.decode.proofs.store_lists.Statement.{statement}

@@ -1,11 +1,10 @@
 -- `decode::walk_gaps` meets its contract. The loop's invariant: what is asked of all the numbers is the larger of the largest
 -- gap so far and what is asked of those that are left. The measure is how many are left. Assumes nothing.
-use mathlib.Core.Path.{_≡_, refl, sym, ap, _∙_}
-use mathlib.Core.List.{List, _∷_}
+use mathlib.Core.Path.{_≡_, sym, ap, _∙_}
 use Prim.Native.Nat.{ℕ, _+_, _-_, _*_, _≤_, _<_, max}
 use native.Mathlib.Omega.{arith}
 use borrow.Author.Needs.{needs}
-use Rattle.model.specs.Outcome.{accepted, refused}
+use Rattle.model.specs.Outcome.{accepted}
 use Rattle.model.specs.Lists.{top}
 use Rattle.model.specs.Delivery.{largest-gap, read-gaps}
 use Rattle.fields.specs.Positions.{take-at}

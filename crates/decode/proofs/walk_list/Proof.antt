@@ -1,14 +1,14 @@
 -- `decode::walk_list` meets its contract: the header, then the gaps; the width is tested with their largest. Assumes nothing.
 use borrow.Author.Needs.{needs}
-use mathlib.Core.Path.{_≡_, refl, sym, ap, ap₂, _∙_}
+use mathlib.Core.Path.{_≡_, refl, sym, ap, _∙_}
 use mathlib.Core.Bool.{Bool, true, false}
-use mathlib.Core.List.{List, [], _∷_}
-use Prim.Native.Nat.{ℕ, zero, suc, _+_, _-_, _≤_, _<_}
+use mathlib.Core.List.{List, _∷_}
+use Prim.Native.Nat.{ℕ, zero, suc, _-_, _≤_, _<_}
 use native.Mathlib.Omega.{arith}
 use lib.Dec.{eqb}
 use lib.ListN.{length}
 use borrow.Author.Tests.{eq-eqb, ne-eqb}
-use Rattle.model.specs.Outcome.{Outcome, accepted, refused, require, _>>_}
+use Rattle.model.specs.Outcome.{accepted, require, _>>_}
 use Rattle.model.specs.Delivery.{largest-gap, width, read-gaps, read-list}
 use Rattle.fields.specs.Positions.{take-at}
 use Rattle.decode.specs.Heads.{header}

@@ -1,12 +1,11 @@
 -- `decode::walk_lists` meets its contract. The loop's invariant: what all lists have together is what was counted and what
 -- those that are left have. The measure is how many are left. Assumes nothing.
-use mathlib.Core.Path.{_≡_, refl, sym, ap, ap₂, _∙_}
-use mathlib.Core.List.{List, [], _∷_}
-use Prim.Native.Nat.{ℕ, _+_, _-_, _*_, _≤_, _<_}
+use mathlib.Core.Path.{_≡_, sym, ap, _∙_}
+use Prim.Native.Nat.{ℕ, _+_, _-_, _*_, _≤_}
 use native.Mathlib.Omega.{arith}
 use borrow.Author.Needs.{needs}
 use lib.ListN.{length}
-use Rattle.model.specs.Outcome.{accepted, refused}
+use Rattle.model.specs.Outcome.{accepted}
 use Rattle.model.specs.Sets.{all-numbers}
 use Rattle.model.specs.Delivery.{read-list, read-lists}
 use Rattle.fields.specs.Positions.{take-at}

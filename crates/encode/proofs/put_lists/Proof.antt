@@ -2,9 +2,9 @@
 -- to be put from here on, and the widths from here on are those of the lists that are left. The measure is how many are
 -- left. Assumes nothing.
 use mathlib.Core.Path.{_≡_, refl, sym, ap, ap₂, _∙_, subst}
-use mathlib.Core.Bool.{Bool, true, _&&_}
-use mathlib.Core.List.{List, [], _∷_, _++_, map}
-use Prim.Native.Nat.{ℕ, _+_, _-_, _*_, _≤_, _<_}
+use mathlib.Core.Bool.{true}
+use mathlib.Core.List.{List, _∷_, map}
+use Prim.Native.Nat.{ℕ, _+_, _-_, _*_, _≤_}
 use native.Mathlib.Omega.{arith}
 use borrow.Author.Needs.{needs}
 use lib.ListN.{length, getD, take, drop, replicate, length-take, length-map}
@@ -14,7 +14,7 @@ use Rattle.model.specs.Delivery.{list-bits, lists-bits}
 use Rattle.model.proofs.Order.{and-true}
 use Rattle.model.proofs.Accepted.{numbers-part}
 use Rattle.model.proofs.Laid.{lists-length}
-use Rattle.lists.proofs.Ends.{Next, hold-next}
+use Rattle.lists.proofs.Ends.{hold-next}
 use Rattle.fields.specs.Rows.{lay}
 use Rattle.fields.specs.Positions.{put-bits}
 use Rattle.fields.proofs.Rows.{lay-length}

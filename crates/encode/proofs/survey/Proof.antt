@@ -1,13 +1,12 @@
 -- `encode::survey` meets its contract. The loop's invariant: whether all lists ascend, their bits and their widths are what was
 -- found and what those that are left have. The measure is how many are left. Assumes nothing.
 use mathlib.Core.Path.{_≡_, refl, sym, ap, ap₂, _∙_}
-use mathlib.Core.Bool.{Bool, true, false}
-use mathlib.Core.List.{List, [], _∷_, map}
-use Prim.Native.Nat.{ℕ, _+_, _-_, _*_, _≤_, _<_}
+use mathlib.Core.Bool.{true, false}
+use mathlib.Core.List.{List, map}
+use Prim.Native.Nat.{ℕ, _+_, _-_, _*_, _≤_}
 use native.Mathlib.Omega.{arith}
 use borrow.Author.Needs.{needs}
 use lib.ListN.{length, getD, take, drop, set, replicate, length-set, length-take, length-drop}
-use Rattle.model.specs.Outcome.{Outcome, accepted, refused}
 use Rattle.model.specs.Lists.{ascending, all-ascending, part, lists-from, ends-hold}
 use Rattle.model.specs.Delivery.{width, list-bits, lists-bits}
 use Rattle.model.proofs.Accepted.{numbers-part}
@@ -16,7 +15,7 @@ use Rattle.lists.proofs.Ends.{Next, hold-next, lists-fall, lists-more}
 use Rattle.lists.proofs.Rises.{falls}
 use Rattle.fields.specs.Rows.{lay}
 use Rattle.fields.proofs.Rows.{lay-nil, lay-cons}
-use Rattle.encode.specs.Measures.{gap-width, list-size, measured-by, measured}
+use Rattle.encode.specs.Measures.{gap-width, list-size, measured}
 use Rattle.encode.proofs.Sizes.{gap-width-wide, risen, list-size-is, size-small}
 use Rattle.encode.proofs.Rest.{rest-more, rest-none, bits-cons}
 use Rattle.encode.proofs.survey.Statement.{statement}

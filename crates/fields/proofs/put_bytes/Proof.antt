@@ -1,11 +1,10 @@
 -- `fields::put_bytes` meets its contract. The loop's invariant, said backwards: what is to be put from the start is what is
 -- still to be put from here on, so a turn is one store (`put-turn`). The measure is the bytes left. Assumes nothing.
 use mathlib.Core.Path.{_≡_, refl, sym, ap, ap₂, _∙_}
-use mathlib.Core.List.{List}
 use Prim.Native.Nat.{ℕ, suc, _+_, _-_, _*_, _/_, _%_, _^_, _≤_, _<_}
 use native.Mathlib.Nat.{mod-lt, zero-lt-suc}
 use native.Mathlib.Omega.{arith}
-use lib.ListN.{length, getD, set, length-set}
+use lib.ListN.{length, set, length-set}
 use borrow.Author.Needs.{needs}
 use Rattle.model.specs.Fields.{Bytes, field}
 use Rattle.fields.specs.Positions.{put-bits}

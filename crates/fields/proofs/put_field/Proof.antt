@@ -1,17 +1,17 @@
 -- `fields::put_field` meets its contract: in the bytes that hold the field, the bits before it and behind it stay
 -- (`before-in`, `behind-in`), and storing those bytes is putting the field (`put-held`). Assumes nothing.
 use borrow.Author.Needs.{needs}
-use mathlib.Core.Path.{_≡_, sym, ap, ap₂, _∙_, subst}
+use mathlib.Core.Path.{_≡_, ap, ap₂, _∙_, subst}
 use mathlib.Core.List.{List}
-use Prim.Native.Nat.{ℕ, _+_, _-_, _*_, _/_, _%_, _^_, _≤_, _<_}
+use Prim.Native.Nat.{ℕ, _+_, _-_, _*_, _/_, _%_, _^_, _<_}
 use native.Mathlib.Nat.{mod-lt, lt-of-lt-of-le}
 use native.Mathlib.Omega.{arith}
 use lib.Arith.{digits-lt}
 use lib.Pow.{pow-pos, pow-mono, pow-add, shl-lt}
-use lib.ListN.{length, take, drop}
+use lib.ListN.{take, drop}
 use Rattle.model.specs.Fields.{bits, value, field}
 use Rattle.fields.specs.Positions.{put-bits}
-use Rattle.fields.proofs.Fields.{before, behind, before-in, behind-in, before-lt, behind-lt}
+use Rattle.fields.proofs.Fields.{before, behind, before-in, behind-in, before-lt}
 use Rattle.fields.proofs.Puts.{put-held}
 use Rattle.fields.proofs.put_field.Statement.{statement}
 use Rattle.fields.proofs.put_field.Tie as tie
