@@ -23,13 +23,13 @@ use Rattle.model.proofs.Accepted.{never-accepted, accepted-same, bound,
 use Rattle.model.proofs.Bits.{taken, was-field, filled, fill-only, bytes-are}
 
 -- a node that can be written: a list number below 32, 1 to 8 member nodes
-abbrev Writable : Node → Type 0
+abbrev pub Writable : Node → Type 0
 Writable (Leaf k) = k < 32
 Writable Difference = Unit {0}
 Writable (Union n) = (1 ≤ n) × (n ≤ 8)
 Writable (Intersection n) = (1 ≤ n) × (n ≤ 8)
 
-count-pos : (ts : Members) → 1 ≤ count ts
+pub count-pos : (ts : Members) → 1 ≤ count ts
 unfolding count
 count-pos (one t) = omega arith
 count-pos (more t ts) = omega arith
@@ -157,7 +157,7 @@ unfolding puts
 row-puts [] = refl
 row-puts (n ∷ ns) = ap (λ (l : List ℕ). row-byte n ∷ l) (row-puts ns)
 
-byte-node : (n : Node) → Writable n → node-of (row-byte n) ≡ accepted n
+pub byte-node : (n : Node) → Writable n → node-of (row-byte n) ≡ accepted n
 unfolding node-of row-byte
 byte-node (Leaf k) h = rw (le-leb k 31 (omega arith))
 byte-node Difference h = refl

@@ -1,0 +1,118 @@
+-- The two calls whole. Each reads in one form and writes in the other, so both are one argument over what is written of a
+-- tree. A reading that is refused hands back no nodes, so that behind the test of its number nothing is left to say of it.
+-- Assumes nothing.
+use mathlib.Core.Path.{_≡_, refl, sym, ap, _∙_}
+use mathlib.Core.Bool.{Bool, true, false}
+use mathlib.Core.List.{List, [], _∷_, _++_}
+use Prim.Native.Nat.{ℕ, _-_, _*_, _≤_, _<_}
+use native.Mathlib.Nat.{zero-add}
+use native.Mathlib.Omega.{arith}
+use lib.Dec.{leb}
+use lib.ListN.{length, take, drop, replicate, length-append, length-replicate}
+use lib.Seq.{take-at}
+use borrow.Author.Tests.{le-leb, lt-leb, leb-true}
+use Rattle.model.specs.Outcome.{Outcome, refused, accepted, _>>=_, _>>_, require, number-of, Sent, over, sent}
+use Rattle.model.specs.Lists.{count-holds}
+use Rattle.model.specs.Expression.{Tree, size}
+use Rattle.model.specs.Fields.{Bytes, field, fill, bytes}
+use Rattle.model.specs.Forms.{nodes, row, packed, read-row, read-packed}
+use Rattle.model.specs.Calls.{written, unpack-expression, pack-expression}
+use Rattle.model.specs.Demands.{Expression}
+use Rattle.model.proofs.Order.{and-true}
+use Rattle.model.proofs.Shape.{row-long}
+use Rattle.expression.specs.declared.Expression.{Expression as Read}
+use Rattle.expression.specs.Reading.{expression-of}
+use Rattle.fields.specs.Positions.{put-bits}
+use Rattle.fields.proofs.Puts.{put-append, put-whole, bytes-length}
+use Rattle.forms.specs.Packing.{refusal, row-bits}
+use Rattle.forms.proofs.Nodes.{tree-packed}
+
+-- what is written of what was read
+unfoldable pub of-read : (Tree → List ℕ) → Outcome Tree → List ℕ
+of-read form (refused n) = []
+of-read form (accepted t) = form t
+
+-- ---- what reading hands back
+
+-- an expression, if any
+abbrev pub Holds : ℕ → Outcome Tree → Type 0
+Holds lists o = (t : Tree) → o ≡ accepted t → Expression lists t
+
+-- its number, and its nodes at the start of a row of 48
+pub record Handed (o : Outcome Tree) (r : Read) : Type 0 where
+  pub number : r .number ≡ number-of o
+  pub count : r .count ≡ length (of-read row o)
+  pub few : r .count ≤ 48
+  pub all : length (r .nodes) ≡ 48
+  pub nodes : take (r .count) (r .nodes) ≡ of-read row o
+
+pub handed : {lists : ℕ} (o : Outcome Tree) {r : Read} → Holds lists o → r ≡ expression-of o → Handed o r
+unfolding expression-of of-read number-of
+handed (refused n) h e = rw e (record { number = refl; count = refl; few = omega arith; all = refl; nodes = refl })
+handed (accepted t) h e =
+    rw e (record {
+      number = refl;
+      count = sym (row-long t);
+      few = h t refl .nodes;
+      all = omega (arith, length-append (row t) (replicate (48 - size t) 0), length-replicate {A = ℕ} (48 - size t) 0, row-long t, h t refl .nodes);
+      nodes = take-at (row t) _ (size t) (row-long t);
+    })
+
+-- ---- what a call sends back
+
+-- from the reading on, of what is written of a tree and how long it is
+abbrev pub sends : (Tree → List ℕ) → (Tree → ℕ) → List ℕ → Outcome Tree → Sent
+sends form long lent o = sent 1 (lent ∷ []) (o >>= λ t. (require 6 (leb (long t) (length lent)) >> accepted (record { parts = long t ∷ []; written = form t ∷ [] })))
+
+module _ (form : Tree → List ℕ) (long : Tree → ℕ) (is-long : (t : Tree) → length (form t) ≡ long t) (lent : List ℕ) where
+  pub sends-refusal : (o : Outcome Tree) → (number-of o ≡ 0 → ⊥) → written (refusal (number-of o)) lent ≡ sends form long lent o
+  unfolding number-of sent
+  sends-refusal (refused n) h = refl
+  sends-refusal (accepted t) h = absurd (h refl)
+
+  pub sends-short : (o : Outcome Tree) → length lent < length (of-read form o) → written (refusal 6) lent ≡ sends form long lent o
+  unfolding of-read sent
+  sends-short (refused n) h = absurd (omega arith)
+  sends-short (accepted t) h = rw (lt-leb (long t) (length lent) (omega (arith, is-long t)))
+
+  pub sends-all : (o : Outcome Tree) → number-of o ≡ 0 → length (of-read form o) ≤ length lent
+      → written (record { number = 0; count = length (of-read form o) }) (of-read form o ++ drop (length (of-read form o)) lent) ≡ sends form long lent o
+  unfolding of-read number-of sent over
+  sends-all (refused n) e h = rw e
+  sends-all (accepted t) e h = rw (le-leb (long t) (length lent) (omega (arith, is-long t)), is-long t)
+
+-- ---- the two calls: 7 first, then the reading
+
+module _ (s : List ℕ) (lists : ℕ) (lent : List ℕ) where
+  pub unpack-wrong : count-holds lists ≡ false → written (refusal 7) lent ≡ unpack-expression s lists lent
+  unfolding unpack-expression sent
+  unpack-wrong h = rw h
+
+  pub unpack-on : count-holds lists ≡ true → sends row size lent (read-packed lists s) ≡ unpack-expression s lists lent
+  unfolding unpack-expression
+  unpack-on h = rw h
+
+  pub pack-wrong : count-holds lists ≡ false → written (refusal 7) lent ≡ pack-expression s lists lent
+  unfolding pack-expression sent
+  pack-wrong h = rw h
+
+  pub pack-on : count-holds lists ≡ true → sends packed (λ t. length (packed t)) lent (read-row lists s) ≡ pack-expression s lists lent
+  unfolding pack-expression
+  pack-on h = rw h
+
+-- ---- packing what was read
+
+-- the packed form is the bytes of the bits of the row form
+pub packed-of : {lists : ℕ} (o : Outcome Tree) → Holds lists o → count-holds lists ≡ true → bytes (row-bits (of-read row o)) ≡ of-read packed o
+unfolding of-read packed bytes fill row-bits count-holds
+packed-of (refused n) h few = refl
+packed-of {lists} (accepted t) h few = ap bytes (tree-packed lists t (leb-true lists 32 (and-true (leb 1 lists) (leb lists 32) few .1)) (h t refl .named))
+
+-- bits put from the start, and zero bits behind them up to a whole byte
+pub put-filled : (s : List ℕ) (bs : List Bool) (n : ℕ) → Bytes s → n ≡ length (bytes bs) → n ≤ length s
+    → put-bits (put-bits s 0 bs) (length bs) (field (8 * n - length bs) 0) ≡ bytes bs ++ drop n s
+put-filled s bs n h e room =
+    let k : ℕ = 8 * n - length bs in
+    let long = bytes-length bs in
+    ap (λ (p : ℕ). put-bits (put-bits s 0 bs) p (field k 0)) (sym (zero-add (length bs))) ∙ put-append s 0 bs (field k 0) (omega arith)
+    ∙ put-whole s bs k h (omega arith) (omega arith) ∙ ap (λ (m : ℕ). bytes bs ++ drop m s) (sym e)

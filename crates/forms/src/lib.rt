@@ -1,0 +1,143 @@
+// An expression from one stored form into the other. It is read first, so that a refusal leaves the lent row as it is; what
+// reading hands back is one byte a node, which is copied out, or put as the bits that say the same.
+ghost use mathlib.Core.Path.{_≡_};
+ghost use Prim.Native.Nat.{_*_, _≤_};
+ghost use lib.ListN.{length};
+ghost use Rattle.model.specs.Lists.{count-holds};
+ghost use Rattle.model.specs.Calls.{written, unpack-expression, pack-expression};
+ghost use Rattle.fields.specs.Rows.{lay};
+ghost use Rattle.fields.specs.Positions.{put-bits};
+ghost use Rattle.forms.specs.Packing.{refusal, bits-of, row-bits};
+use expression::Form;
+use model::Written;
+
+// How a byte of the row form is packed: so many bits, and the number that they write.
+struct Bits {
+    width: usize,
+    value: u32,
+}
+
+// What is handed back with a refusal: its number, and nothing written.
+fn refused(number: u32) -> Written
+    ensures { λ r. ⌜ r ≡ refusal number ⌝ }
+{
+    Written { number, count: 0 }
+}
+
+// Whether there are 1 to 32 lists.
+fn lists_hold(lists: usize) -> bool
+    ensures { λ r. ⌜ r ≡ count-holds lists ⌝ }
+{
+    if lists == 0 {
+        return false;
+    }
+    lists <= 32
+}
+
+// Copies `from` to the start of `lent`.
+fn copy_out(lent: &mut [u8], from: &[u8])
+    requires { ⌜ length (now from) ≤ length (now lent) ⌝ }
+    ensures { λ _. ⌜ now (lent .exit) ≡ lay (now (lent .entry)) 0 (now (from .entry)) ⌝ }
+{
+    let mut i = 0;
+    while i < from.len() {
+        lent[i] = from[i];
+        i += 1;
+    }
+}
+
+// How a byte of the row form is packed; an unknown byte has no bits.
+fn bits_of(b: u8) -> Bits
+    ensures { λ r. ⌜ r ≡ bits-of b ⌝ }
+{
+    let v = b as u32;
+    match b {
+        0..=31 => Bits { width: 7, value: v },
+        64 => Bits { width: 2, value: 1 },
+        129..=136 => Bits {
+            width: 5,
+            value: 16 + (v - 129),
+        },
+        193..=200 => Bits {
+            width: 5,
+            value: 24 + (v - 193),
+        },
+        _ => Bits { width: 0, value: 0 },
+    }
+}
+
+// How many bits the nodes of a row take when they are packed.
+fn packed_bits(row: &[u8]) -> usize
+    requires { ⌜ length (now row) ≤ 48 ⌝ }
+    ensures { λ r. ⌜ r ≡ length (row-bits (now (row .entry))) ⌝ }
+{
+    let mut n = 0;
+    let mut i = 0;
+    while i < row.len() {
+        let bits = bits_of(row[i]);
+        n += bits.width;
+        i += 1;
+    }
+    n
+}
+
+// Puts the nodes of a row, packed, from the first bit of s on.
+fn put_nodes(s: &mut [u8], row: &[u8])
+    requires { ⌜ (length (now row) ≤ 48) × (length (row-bits (now row)) ≤ 8 * length (now s)) ⌝ }
+    ensures { λ _. ⌜ now (s .exit) ≡ put-bits (now (s .entry)) 0 (row-bits (now (row .entry))) ⌝ }
+{
+    let mut at = 0;
+    let mut i = 0;
+    while i < row.len() {
+        let bits = bits_of(row[i]);
+        fields::put_field(s, at, bits.width, bits.value);
+        at += bits.width;
+        i += 1;
+    }
+}
+
+// A packed expression into its row form, in the lent row; as many elements as there are nodes.
+pub fn unpack_expression(bytes: &[u8], lists: usize, row: &mut [u8]) -> Written
+    ensures { λ r. ⌜ written r (now (row .exit)) ≡ unpack-expression (now (bytes .entry)) lists (now (row .entry)) ⌝ }
+{
+    if !lists_hold(lists) {
+        return refused(7);
+    }
+    let read = expression::read_expression(Form::Packed, bytes, lists);
+    if read.number != 0 {
+        return refused(read.number);
+    }
+    let nodes = read.nodes;
+    let count = read.count;
+    if row.len() < count {
+        return refused(6);
+    }
+    copy_out(row, &nodes[..count]);
+    Written { number: 0, count }
+}
+
+// The row form of an expression into its packed form, in the lent bytes; the last byte is filled with zero bits.
+pub fn pack_expression(row: &[u8], lists: usize, bytes: &mut [u8]) -> Written
+    ensures { λ r. ⌜ written r (now (bytes .exit)) ≡ pack-expression (now (row .entry)) lists (now (bytes .entry)) ⌝ }
+{
+    if !lists_hold(lists) {
+        return refused(7);
+    }
+    let read = expression::read_expression(Form::Row, row, lists);
+    if read.number != 0 {
+        return refused(read.number);
+    }
+    let nodes = read.nodes;
+    let count = read.count;
+    let at = packed_bits(&nodes[..count]);
+    let size = (at + 7) / 8;
+    if bytes.len() < size {
+        return refused(6);
+    }
+    put_nodes(bytes, &nodes[..count]);
+    fields::put_field(bytes, at, 8 * size - at, 0);
+    Written {
+        number: 0,
+        count: size,
+    }
+}
