@@ -42,7 +42,7 @@ fn wide(x: u32) -> usize
 }
 
 // The header of the list at the bit position at, where the numbers row has so much room.
-pub fn read_head(s: &[u8], at: usize, room: usize) -> Head
+fn read_head(s: &[u8], at: usize, room: usize) -> Head
     requires { ⌜ at < 2 ^ 60 ⌝ }
     ensures { λ r. ⌜ head-says r ≡ header (take-at (now (s .entry))) room at ⌝ }
 {
@@ -91,7 +91,7 @@ pub fn read_head(s: &[u8], at: usize, room: usize) -> Head
 }
 
 // The number behind `last`, whose gap has w bits at the bit position at.
-pub fn read_gap(s: &[u8], at: usize, w: u32, last: u32) -> Read
+fn read_gap(s: &[u8], at: usize, w: u32, last: u32) -> Read
     requires { ⌜ (1 ≤ w) × (w ≤ 32) × (at < 2 ^ 60) ⌝ }
     ensures { λ r. ⌜ read-says r ≡ gap (take-at (now (s .entry))) w last at ⌝ }
 {

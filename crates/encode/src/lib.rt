@@ -2,15 +2,14 @@
 // writes; in between, the row is known to be long enough.
 ghost use mathlib.Core.Path.{_≡_};
 ghost use mathlib.Core.Bool.{true};
-ghost use mathlib.Core.List.{map};
 ghost use Prim.Native.Nat.{_+_, _-_, _*_, _^_, _≤_, _<_};
-ghost use lib.ListN.{length, getD, drop, replicate};
-ghost use Rattle.model.specs.Lists.{rises, ascending, all-ascending, lists-from, ends-hold};
-ghost use Rattle.model.specs.Delivery.{largest-gap, gap-bits, list-bits, lists-bits};
+ghost use lib.ListN.{length, getD, drop};
+ghost use Rattle.model.specs.Lists.{lists-from, ends-hold};
+ghost use Rattle.model.specs.Delivery.{gap-bits, list-bits, lists-bits};
 ghost use Rattle.model.specs.Calls.{written, encode-delivery};
-ghost use Rattle.fields.specs.Rows.{lay};
 ghost use Rattle.fields.specs.Positions.{put-bits};
-ghost use Rattle.encode.specs.Measures.{gap-width, list-size, measured};
+ghost use Rattle.encode.specs.Fits.{Gaps-fit, List-fits, Lists-fit};
+ghost use Rattle.encode.specs.Measures.{list-size, measured};
 use lists::Rise;
 use model::Written;
 
@@ -90,7 +89,7 @@ fn survey(numbers: &[u32], ends: &[u32]) -> Measure
 
 // Puts the gaps minus 1 of a list's numbers behind its first, w bits each, from the bit position at on.
 fn put_gaps(s: &mut [u8], at: usize, w: usize, list: &[u32]) -> usize
-    requires { ⌜ (1 ≤ length (now list)) × (length (now list) ≤ 65535) × (w ≤ 32) × (at < 2 ^ 40) × (at + w * (length (now list) - 1) ≤ 8 * length (now s)) × (rises (getD (now list) 0 0) (drop 1 (now list)) ≡ true) × (largest-gap (getD (now list) 0 0) (drop 1 (now list)) < 2 ^ w) ⌝ }
+    requires { ⌜ Gaps-fit (now s) at w (now list) ⌝ }
     ensures { λ r. ⌜ (r ≡ at + w * (length (now (list .entry)) - 1)) × (now (s .exit) ≡ put-bits (now (s .entry)) at (gap-bits w (getD (now (list .entry)) 0 0) (drop 1 (now (list .entry))))) ⌝ }
 {
     let mut next = at;
@@ -108,7 +107,7 @@ fn put_gaps(s: &mut [u8], at: usize, w: usize, list: &[u32]) -> usize
 
 // Puts a list, whose gaps have w bits, from the bit position at on.
 fn put_list(s: &mut [u8], at: usize, list: &[u32], w: usize) -> usize
-    requires { ⌜ (length (now list) ≤ 65535) × (at < 2 ^ 39) × (at + length (list-bits (now list)) ≤ 8 * length (now s)) × (ascending (now list) ≡ true) × (w ≡ gap-width (now list)) ⌝ }
+    requires { ⌜ List-fits (now s) at (now list) w ⌝ }
     ensures { λ r. ⌜ (r ≡ at + length (list-bits (now (list .entry)))) × (now (s .exit) ≡ put-bits (now (s .entry)) at (list-bits (now (list .entry)))) ⌝ }
 {
     fields::put_field(s, at, 16, narrow(list.len()));
@@ -131,7 +130,7 @@ fn wide_byte(x: u8) -> usize
 
 // Puts all lists, whose gaps have these widths, behind the number of lists.
 fn put_lists(s: &mut [u8], numbers: &[u32], ends: &[u32], widths: [u8; 32]) -> usize
-    requires { ⌜ (ends-hold (length (now numbers)) 0 (now ends) ≡ true) × (length (now ends) ≤ 32) × (all-ascending (lists-from (now numbers) 0 (now ends)) ≡ true) × (widths ≡ lay (replicate 32 0) 0 (map gap-width (lists-from (now numbers) 0 (now ends)))) × (6 + length (lists-bits (lists-from (now numbers) 0 (now ends))) ≤ 8 * length (now s)) ⌝ }
+    requires { ⌜ Lists-fit (now s) (now numbers) (now ends) widths ⌝ }
     ensures { λ r. ⌜ (r ≡ 6 + length (lists-bits (lists-from (now (numbers .entry)) 0 (now (ends .entry))))) × (now (s .exit) ≡ put-bits (now (s .entry)) 6 (lists-bits (lists-from (now (numbers .entry)) 0 (now (ends .entry))))) ⌝ }
 {
     let mut next: usize = 6;

@@ -118,7 +118,7 @@ put-lists-requires c κs =
     let e = c .before .before .before .before .before .before .before .before .before in
     let p = c .before .before .before in
     let f = found e in
-    (ten (e .before .before .before), omega arith, f .up, f .widths, omega (arith, f .bits, c .before .before .before .before .before .before .before .if5 .left, p .put-field .kept .0))
+    record { hold = ten (e .before .before .before); few = omega arith; ascend = f .up; wide = f .widths; room = omega (arith, f .bits, c .before .before .before .before .before .before .before .if5 .left, p .put-field .kept .0) }
 
 mul-put-field : tie.Need-mul-put-field
 mul-put-field c = omega (arith, few (c .before .before .before .before .before .before .before .before .before .before .before .before .before))

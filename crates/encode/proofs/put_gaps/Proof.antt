@@ -54,7 +54,7 @@ room c =
 loop-holds : tie.Need-loop-holds Inv-loop μ-loop
 loop-holds c =
     let args = c .before .before .before .args in
-    (omega arith, omega arith, omega (arith, mul-zero (args .w)), refl, λ i. c .before .before .slice-known .given i .fits, refl, c .before .before .before .pre .5, c .before .before .before .pre .6)
+    (omega arith, omega arith, omega (arith, mul-zero (args .w)), refl, λ i. c .before .before .slice-known .given i .fits, refl, c .before .before .before .pre .rise, c .before .before .before .pre .hold)
 
 mul-x : tie.Need-mul-x Inv-loop μ-loop
 mul-x c = search needs

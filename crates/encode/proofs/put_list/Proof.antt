@@ -25,12 +25,12 @@ joined s at a xs ys l h er et =
 
 -- what is required, as it is used
 sized : (c : tie.Start) → let l = c .args .list .now in length (list-bits l) ≡ list-size (length l) (c .args .w)
-sized c = list-size-is (c .args .list .now) ∙ ap (list-size (length (c .args .list .now))) (sym (c .pre .4))
+sized c = list-size-is (c .args .list .now) ∙ ap (list-size (length (c .args .list .now))) (sym (c .pre .wide))
 
 wide : (c : tie.After-put-field) → Wide (largest (c .before .before .before .before .before .args .list .now)) (c .before .before .before .before .before .args .w)
 wide c =
     let start = c .before .before .before .before .before in
-    subst (Wide (largest (start .args .list .now))) (sym (start .pre .4)) (gap-width-wide (start .args .list .now) (λ i. c .before .before .before .shared-slice-known .given i .fits))
+    subst (Wide (largest (start .args .list .now))) (sym (start .pre .wide)) (gap-width-wide (start .args .list .now) (λ i. c .before .before .before .shared-slice-known .given i .fits))
 
 -- the row up to behind the count, and up to behind the first number
 counted : (c : tie.After-put-field) → let args = c .before .before .before .before .before .args in c .put-field .last .0 ≡ put-bits (args .s .now) (args .at) (field 16 (length (args .list .now)))
@@ -41,7 +41,7 @@ begun : (c : tie.After-put-field2) → let args = c .before .before .before .bef
 begun c =
     let start = c .before .before .before .before .before .before .before .before .before .before .before in
     let args = start .args in
-    joined (args .s .now) (args .at) 16 (field 16 (length (args .list .now))) _ (field-length 16 (length (args .list .now))) (omega (arith, sized start, size-any (length (args .list .now)) (args .w), start .pre .2)) (counted (c .before .before .before .before .before .before)) (c .put-field2 .ensures)
+    joined (args .s .now) (args .at) 16 (field 16 (length (args .list .now))) _ (field-length 16 (length (args .list .now))) (omega (arith, sized start, size-any (length (args .list .now)) (args .w), start .pre .room)) (counted (c .before .before .before .before .before .before)) (c .put-field2 .ensures)
 
 narrow-requires : tie.Need-narrow-requires
 narrow-requires c κs = search needs
@@ -54,7 +54,7 @@ put-field-requires : tie.Need-put-field-requires
 put-field-requires c κs =
     let start = c .before .before .before .before in
     let args = start .args in
-    (omega arith, omega (arith, c .narrow .ensures, start .pre .0), omega (arith, sized start, size-any (length (args .list .now)) (args .w), start .pre .2), omega (arith, start .pre .1))
+    (omega arith, omega (arith, c .narrow .ensures, start .pre .few), omega (arith, sized start, size-any (length (args .list .now)) (args .w), start .pre .room), omega (arith, start .pre .low))
 
 add-result : tie.Need-add-result
 add-result c = search needs
@@ -83,8 +83,8 @@ put-field-requires-2 c κs =
     let e = c .before .before in (
       omega arith,
       p .before .before .before .shared-slice-known .given 0 .fits,
-      omega (arith, sized start, size-some (length (args .list .now)) (args .w) (omega (arith, e .if1 .left)), start .pre .2, p .put-field .kept .0),
-      omega (arith, start .pre .1),
+      omega (arith, sized start, size-some (length (args .list .now)) (args .w) (omega (arith, e .if1 .left)), start .pre .room, p .put-field .kept .0),
+      omega (arith, start .pre .low),
     )
 
 add-result-2 : tie.Need-add-result-2
@@ -120,8 +120,8 @@ put-field-requires-3 c κs =
     let w = wide p in (
       omega arith,
       omega (arith, c .narrow2 .ensures, w .one, w .most),
-      omega (arith, sized start, size-more (length (args .list .now)) (args .w) (many p2 (c .before .before .if2 .left)), start .pre .2, p .put-field .kept .0, p2 .put-field2 .kept .0),
-      omega (arith, start .pre .1),
+      omega (arith, sized start, size-more (length (args .list .now)) (args .w) (many p2 (c .before .before .if2 .left)), start .pre .room, p .put-field .kept .0, p2 .put-field2 .kept .0),
+      omega (arith, start .pre .low),
     )
 
 add-put-gaps : tie.Need-add-put-gaps
@@ -135,15 +135,16 @@ put-gaps-requires c κs =
     let start = p .before .before .before .before .before in
     let args = start .args in
     let w = wide p in
-    let more = many p2 (p3 .before .before .before .if2 .left) in (
-      omega arith,
-      start .pre .0,
-      w .most,
-      omega (arith, start .pre .1),
-      omega (arith, sized start, size-more (length (args .list .now)) (args .w) more, start .pre .2, p .put-field .kept .0, p2 .put-field2 .kept .0, p3 .put-field3 .kept .0),
-      from-first (args .list .now) (omega arith) (start .pre .3),
-      subst (λ (m : ℕ). m < 2 ^ args .w) (largest-first (args .list .now) (omega arith)) (w .holds),
-    )
+    let more = many p2 (p3 .before .before .before .if2 .left) in
+    record {
+      some = omega arith;
+      few = start .pre .few;
+      most = w .most;
+      low = omega (arith, start .pre .low);
+      room = omega (arith, sized start, size-more (length (args .list .now)) (args .w) more, start .pre .room, p .put-field .kept .0, p2 .put-field2 .kept .0, p3 .put-field3 .kept .0);
+      rise = from-first (args .list .now) (omega arith) (start .pre .ascends);
+      hold = subst (λ (m : ℕ). m < 2 ^ args .w) (largest-first (args .list .now) (omega arith)) (w .holds);
+    }
 
 same-length-3 : tie.Need-same-length-3
 same-length-3 c = search needs
@@ -163,11 +164,11 @@ returns-3 c =
     let less : List Bool = field 5 (gap-width l - 1) in
     let gaps : List Bool = gap-bits (gap-width l) (getD l 0 0) (drop 1 l) in
     let tail : p3 .put-field3 .last .0 ≡ put-bits (args .s .now) (args .at) (head ++ less) =
-    joined (args .s .now) (args .at) 48 head less long (omega (arith, sized start, start .pre .2)) (begun p2)
-    (p3 .put-field3 .ensures ∙ ap (λ (n : ℕ). put-bits (p2 .put-field2 .last .0) (args .at + 48) (field 5 n)) (p3 .before .narrow2 .ensures ∙ ap (λ (n : ℕ). n - 1) (start .pre .4))) in (
+    joined (args .s .now) (args .at) 48 head less long (omega (arith, sized start, start .pre .room)) (begun p2)
+    (p3 .put-field3 .ensures ∙ ap (λ (n : ℕ). put-bits (p2 .put-field2 .last .0) (args .at + 48) (field 5 n)) (p3 .before .narrow2 .ensures ∙ ap (λ (n : ℕ). n - 1) (start .pre .wide))) in (
       g .put-gaps .ensures .0 ∙ omega (arith, sized start),
-      joined (args .s .now) (args .at) 53 (head ++ less) gaps (omega (arith, length-append head less, field-length 5 (gap-width l - 1))) (omega (arith, sized start, start .pre .2)) tail
-          (g .put-gaps .ensures .1 ∙ ap (λ (n : ℕ). put-bits (p3 .put-field3 .last .0) (args .at + 53) (gap-bits n (getD l 0 0) (drop 1 l))) (start .pre .4))
+      joined (args .s .now) (args .at) 53 (head ++ less) gaps (omega (arith, length-append head less, field-length 5 (gap-width l - 1))) (omega (arith, sized start, start .pre .room)) tail
+          (g .put-gaps .ensures .1 ∙ ap (λ (n : ℕ). put-bits (p3 .put-field3 .last .0) (args .at + 53) (gap-bits n (getD l 0 0) (drop 1 l))) (start .pre .wide))
           ∙ ap (put-bits (args .s .now) (args .at))
           (append-assoc head less gaps ∙ append-assoc (field 16 (length l)) (field 32 (getD l 0 0)) (less ++ gaps) ∙ sym (bits-more l more)),
     )

@@ -58,7 +58,7 @@ record Turn (c : tie.After-wide Inv-loop μ-loop) : Type 0 where
 thirty-two : (c : tie.Start Inv-loop μ-loop) → length (c .args .t4) ≡ 32
 thirty-two c =
     let ls : List (List ℕ) = lists-from (c .args .numbers .now) 0 (c .args .ends .now) in
-    ap length (c .pre .3) ∙ lay-length (replicate 32 0) 0 (map gap-width ls) (omega (arith, length-map ls gap-width, lists-length (c .args .numbers .now) 0 (c .args .ends .now), c .pre .1))
+    ap length (c .pre .wide) ∙ lay-length (replicate 32 0) 0 (map gap-width ls) (omega (arith, length-map ls gap-width, lists-length (c .args .numbers .now) 0 (c .args .ends .now), c .pre .few))
 
 turn : (c : tie.After-wide Inv-loop μ-loop) → Turn c
 unfolding part all-ascending
@@ -91,7 +91,7 @@ turn c =
 loop-holds : tie.Need-loop-holds Inv-loop μ-loop
 loop-holds c =
     let pre = c .before .before .before .pre in
-    (omega arith, omega arith, refl, λ i. c .before .before .slice-known .given i .fits, pre .0, pre .2, lay-again _ _ (pre .3), refl, refl)
+    (omega arith, omega arith, refl, λ i. c .before .before .slice-known .given i .fits, pre .hold, pre .ascend, lay-again _ _ (pre .wide), refl, refl)
 
 mul-wide : tie.Need-mul-wide Inv-loop μ-loop
 mul-wide c = search needs
@@ -126,13 +126,14 @@ put-list-requires c κs =
     let at = w .before .before .before in
     let l = at .loop in
     let pre = at .before .before .before .before .pre in
-    let t = turn w in (
-      t .few,
-      omega (arith, l .inv .1, pre .1),
-      omega (arith, l .inv .7, ap (λ (ls : List (List ℕ)). length (lists-bits ls)) (t .more), bits-cons (list-at w) (rest-at w), pre .4, l .inv .2),
-      t .ascends,
-      c .wide-byte .ensures ∙ t .wide,
-    )
+    let t = turn w in
+    record {
+      few = t .few;
+      low = omega (arith, l .inv .1, pre .few);
+      room = omega (arith, l .inv .7, ap (λ (ls : List (List ℕ)). length (lists-bits ls)) (t .more), bits-cons (list-at w) (rest-at w), pre .room, l .inv .2);
+      ascends = t .ascends;
+      wide = c .wide-byte .ensures ∙ t .wide;
+    }
 
 add-k : tie.Need-add-k Inv-loop μ-loop
 add-k c = search needs
@@ -162,7 +163,7 @@ loop-again c =
       t .widths,
       omega (arith, l .inv .7, long, bits, put .0),
       l .inv .8 ∙ ap (λ (ls : List (List ℕ)). put-bits (l .s) (l .next) (lists-bits ls)) (t .more)
-          ∙ sym (put-append (l .s) (l .next) (list-bits (list-at w)) (lists-bits (rest-at w)) (omega (arith, l .inv .7, long, bits, pre .4, l .inv .2)))
+          ∙ sym (put-append (l .s) (l .next) (list-bits (list-at w)) (lists-bits (rest-at w)) (omega (arith, l .inv .7, long, bits, pre .room, l .inv .2)))
           ∙ ap₂ (λ (row : List ℕ) (q : ℕ). put-bits row q (lists-bits (rest-at w))) (sym (put .1)) (sym (put .0)),
     )
 
