@@ -5,7 +5,6 @@ use Prim.Native.Nat.{ℕ}
 use lib.ListN.{length}
 use Rattle.model.specs.Outcome.{Outcome, refused, accepted}
 use Rattle.model.specs.Sets.{all-numbers}
-use Rattle.model.specs.declared.Delivered.{Delivered}
 use Rattle.decode.specs.declared.Head.{Head}
 use Rattle.decode.specs.declared.Head.the-variants.{Header as HeaderOf, Refused as NoHeader}
 use Rattle.decode.specs.declared.Read.{Read}
@@ -30,13 +29,3 @@ only about (accepted r) = accepted (about (r .0), r .1)
 -- how many numbers lists have together
 unfoldable pub total : List (List ℕ) → ℕ
 total ls = length (all-numbers ls)
-
--- a header that was refused, as what was read
-abbrev pub refused-head : Head → Read
-refused-head (HeaderOf count first width next) = Value 0 next
-refused-head (NoHeader n) = Refused n
-
--- a walk that was refused, as what is handed back: "its number, every other part of the result 0"
-abbrev pub refused-walk : Read → Delivered
-refused-walk (Value x next) = record { number = 0; lists = 0; numbers = 0 }
-refused-walk (Refused n) = record { number = n; lists = 0; numbers = 0 }

@@ -1,5 +1,5 @@
--- The paper's list header and its gap, each as one step of reading: `Delivery.read-list` and `Delivery.read-gaps` are made
--- of these.
+-- The paper's list header and its gap, each as one step of reading. `Delivery.read-list` and `Delivery.read-gaps` are shown
+-- to equal these one after the other.
 use Prim.Native.Nat.{ℕ, zero, suc, _+_}
 use lib.Dec.{ltb, leb}
 use Rattle.model.specs.Outcome.{Outcome, accepted, _>>=_, _>>_, require}

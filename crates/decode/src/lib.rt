@@ -3,17 +3,18 @@
 ghost use mathlib.Core.Path.{_≡_};
 ghost use Prim.Native.Nat.{_+_, _^_, _≤_, _<_, max};
 ghost use lib.ListN.{length};
+ghost use Rattle.model.specs.Outcome.{number-of};
 ghost use Rattle.model.specs.Delivery.{largest-gap, read-gaps, read-list, read-lists};
 ghost use Rattle.model.specs.Calls.{delivered, decode-delivery};
 ghost use Rattle.fields.specs.Positions.{take-at};
 ghost use Rattle.decode.specs.Heads.{header, gap};
-ghost use Rattle.decode.specs.Answers.{head-says, read-says, refused-head, refused-walk, only, total};
+ghost use Rattle.decode.specs.Answers.{head-says, read-says, only, total};
 ghost use Rattle.decode.specs.Stores.{Gaps-stored, List-stored, Lists-read, Lists-stored};
 use fields::Field;
 use model::Delivered;
 
 // What stands before the gaps of a list, with the position behind it, or the number of a refusal.
-pub enum Head {
+enum Head {
     Header {
         count: u32,
         first: u32,
@@ -24,17 +25,18 @@ pub enum Head {
 }
 
 // A number that was read or is about what was read, with the position behind it, or the number of a refusal.
-pub enum Read {
+enum Read {
     Value { value: u32, next: usize },
     Refused(u32),
 }
 
 // Where a list's numbers end in their row once they are stored, and the position behind it in the delivery.
-pub struct Stored {
-    pub end: usize,
-    pub next: usize,
+struct Stored {
+    end: usize,
+    next: usize,
 }
 
+// A 32-bit number as a place.
 fn wide(x: u32) -> usize
     ensures { λ r. ⌜ r ≡ x ⌝ }
 {
@@ -107,6 +109,7 @@ fn read_gap(s: &[u8], at: usize, w: u32, last: u32) -> Read
     }
 }
 
+// The larger of two.
 fn larger(a: u32, b: u32) -> u32
     ensures { λ r. ⌜ r ≡ max a b ⌝ }
 {
@@ -142,18 +145,18 @@ fn walk_gaps(s: &[u8], at: usize, w: u32, n: u32, last: u32) -> Read
     }
 }
 
-// A header that was refused, as what was read.
-fn refused_head(head: Head) -> Read
-    ensures { λ r. ⌜ r ≡ refused-head head ⌝ }
+// The number of a header's refusal, 0 where there is none.
+fn head_number(head: Head) -> u32
+    ensures { λ r. ⌜ r ≡ number-of (head-says head) ⌝ }
 {
     match head {
         Head::Header {
             count: _,
             first: _,
             width: _,
-            next,
-        } => Read::Value { value: 0, next },
-        Head::Refused(number) => Read::Refused(number),
+            next: _,
+        } => 0,
+        Head::Refused(number) => number,
     }
 }
 
@@ -170,7 +173,7 @@ fn walk_list(s: &[u8], at: usize, room: usize) -> Read
         next,
     } = head
     else {
-        return refused_head(head);
+        return Read::Refused(head_number(head));
     };
     if count < 2 {
         return Read::Value { value: count, next };
@@ -237,6 +240,7 @@ fn store_gaps(
     let mut number = last;
     let mut i = from;
     while i < end {
+        // the first walk has read it, so it is a number
         let Read::Value {
             value,
             next: behind,
@@ -257,6 +261,7 @@ fn store_list(s: &[u8], at: usize, numbers: &mut [u32], from: usize) -> Stored
     requires { ⌜ (at < 2 ^ 58) × (from ≤ length (now numbers)) ⌝ }
     ensures { λ r. ⌜ List-stored (now (s .entry)) at (now (numbers .entry)) from (now (numbers .exit)) r ⌝ }
 {
+    // the first walk has read it, so there is a header
     let Head::Header {
         count,
         first,
@@ -304,21 +309,13 @@ fn store_lists(s: &[u8], at: usize, n: u32, numbers: &mut [u32], ends: &mut [u32
     }
 }
 
-// A walk that was refused, as what is handed back.
-fn refused_walk(walk: Read) -> Delivered
-    ensures { λ r. ⌜ r ≡ refused-walk walk ⌝ }
+// The number of a refusal, 0 where there is none.
+fn number_of(read: Read) -> u32
+    ensures { λ r. ⌜ r ≡ number-of (read-says read) ⌝ }
 {
-    match walk {
-        Read::Value { value: _, next: _ } => Delivered {
-            number: 0,
-            lists: 0,
-            numbers: 0,
-        },
-        Read::Refused(number) => Delivered {
-            number,
-            lists: 0,
-            numbers: 0,
-        },
+    match read {
+        Read::Value { value: _, next: _ } => 0,
+        Read::Refused(number) => number,
     }
 }
 
@@ -360,9 +357,13 @@ pub fn decode_delivery(bytes: &[u8], numbers: &mut [u32], ends: &mut [u32]) -> D
         next: end,
     } = walk
     else {
-        return refused_walk(walk);
+        return Delivered {
+            number: number_of(walk),
+            lists: 0,
+            numbers: 0,
+        };
     };
-    if fields::only_zeros(bytes, end) {
+    if fields::only_fill(bytes, end) {
         store_lists(bytes, next, n, numbers, ends);
         return Delivered {
             number: 0,

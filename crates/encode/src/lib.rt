@@ -13,13 +13,15 @@ ghost use Rattle.encode.specs.Measures.{list-size, measured};
 use lists::Rise;
 use model::Written;
 
-// What is known before the first bit is written: 11 or 0, the bits of all lists, and the width of each list's gaps.
-pub struct Measure {
-    pub number: u32,
-    pub bits: usize,
-    pub widths: [u8; 32],
+// What is known before the first bit is written: 11 or 0, the bits of all lists (their number's six apart), and the width of
+// each list's gaps.
+struct Measure {
+    number: u32,
+    bits: usize,
+    widths: [u8; 32],
 }
 
+// A 32-bit number as a place.
 fn wide(x: u32) -> usize
     ensures { λ r. ⌜ r ≡ x ⌝ }
 {
@@ -122,6 +124,7 @@ fn put_list(s: &mut [u8], at: usize, list: &[u32], w: usize) -> usize
     put_gaps(s, at + 53, w, list)
 }
 
+// A width as a number of bits.
 fn wide_byte(x: u8) -> usize
     ensures { λ r. ⌜ r ≡ x ⌝ }
 {

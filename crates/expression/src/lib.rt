@@ -1,5 +1,6 @@
 // Reading an expression in either stored form, into one byte a node: "At each node: 2, 3, 1, then 4 (in a row also 14).
-// After the last: 5".
+// After the last: 5". It is the part that every call on an expression shares: 7 is tested ahead of it, and 6 behind it, by the
+// call.
 ghost use mathlib.Core.Path.{_≡_};
 ghost use Prim.Native.Nat.{_*_, _^_, _≤_, _<_};
 ghost use lib.ListN.{length};
@@ -23,7 +24,7 @@ pub enum Kind {
 }
 
 // What reading a node finds: the node with the position behind it, or the number of a refusal.
-pub enum Step {
+enum Step {
     Node { node: Node, next: usize },
     Refused(u32),
 }
@@ -187,7 +188,7 @@ fn ended(form: Form, s: &[u8], at: usize) -> bool
     ensures { λ r. ⌜ r ≡ at-end form (now (s .entry)) at ⌝ }
 {
     match form {
-        Form::Packed => fields::only_zeros(s, at),
+        Form::Packed => fields::only_fill(s, at),
         Form::Row => s.len() <= at,
     }
 }

@@ -106,7 +106,7 @@ pub fn take_field(s: &[u8], at: usize, w: usize) -> Field
 }
 
 // Whether the bits from the position at on only fill the last byte: fewer than eight, and all 0.
-pub fn only_zeros(s: &[u8], at: usize) -> bool
+pub fn only_fill(s: &[u8], at: usize) -> bool
     requires { ⌜ (at ≤ 8 * length (now s)) × (at < 2 ^ 62) ⌝ }
     ensures { λ r. ⌜ r ≡ only-fill (drop at (bits (now (s .entry)))) ⌝ }
 {
@@ -139,7 +139,7 @@ fn byte(x: u64) -> u8
     (x & 255) as u8
 }
 
-// Puts the w bits of v at the bit position at; every other bit stays.
+// Puts the w bits of v at the bit position at, none for a width of 0; every other bit stays.
 pub fn put_field(s: &mut [u8], at: usize, w: usize, v: u32)
     requires { ⌜ (w ≤ 32) × (v < 2 ^ w) × (at + w ≤ 8 * length (now s)) × (at < 2 ^ 62) ⌝ }
     ensures { λ _. ⌜ now (s .exit) ≡ put-bits (now (s .entry)) at (field w v) ⌝ }

@@ -10,7 +10,7 @@ use Rattle.model.specs.Outcome.{Outcome, refused, accepted, _>>_, require}
 use Rattle.model.specs.Lists.{rises, ascending}
 use Rattle.model.specs.Delivery.{largest-gap}
 use Rattle.model.proofs.Accepted.{never-accepted, required}
-use Rattle.lists.specs.declared.Rise.the-variants.{Ascending, Falls}
+use Rattle.lists.specs.declared.Rise.the-variants.{Ascending, NotAscending}
 use Rattle.lists.specs.Rise.{rise-says, largest, rise}
 use Rattle.lists.proofs.Left.{left-cons}
 
@@ -51,7 +51,7 @@ pub ascends : (l : List ℕ) (g : ℕ) → rise-says (Ascending g) ≡ rise l �
 unfolding rise-says rise
 ascends l g e = required 11 (ascending l) _ g (sym e) .0
 
-pub falls : (l : List ℕ) → rise-says Falls ≡ rise l → ascending l ≡ false
+pub falls : (l : List ℕ) → rise-says NotAscending ≡ rise l → ascending l ≡ false
 unfolding rise-says rise
 falls l e = go (ascending l) e
   where

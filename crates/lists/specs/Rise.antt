@@ -5,12 +5,12 @@ use Rattle.model.specs.Outcome.{Outcome, refused, accepted, _>>=_, _>>_, requir
 use Rattle.model.specs.Lists.{ascending}
 use Rattle.model.specs.Delivery.{largest-gap}
 use Rattle.lists.specs.declared.Rise.{Rise}
-use Rattle.lists.specs.declared.Rise.the-variants.{Ascending, Falls}
+use Rattle.lists.specs.declared.Rise.the-variants.{Ascending, NotAscending}
 
 -- what a Rise says: the largest gap minus 1, or refusal 11
 unfoldable pub rise-says : Rise → Outcome ℕ
 rise-says (Ascending g) = accepted g
-rise-says Falls = refused 11
+rise-says NotAscending = refused 11
 
 -- the largest gap minus 1 of a whole list, 0 for fewer than two numbers
 unfoldable pub largest : List ℕ → ℕ

@@ -16,7 +16,7 @@ ghost use Rattle.lists.specs.Span.{span-says};
 // they do not.
 pub enum Rise {
     Ascending(u32),
-    Falls,
+    NotAscending,
 }
 
 // Where a list's part stands in the lent numbers, and its length.
@@ -38,7 +38,7 @@ pub fn rise_of(list: &[u32]) -> Rise
     while i < list.len() {
         let x = list[i];
         if x <= last {
-            return Rise::Falls;
+            return Rise::NotAscending;
         }
         let gap = x - last - 1;
         if largest < gap {

@@ -8,8 +8,7 @@ use Prim.Native.Nat.{ℕ, _*_, _≤_, _<_}
 use native.Mathlib.Omega.{arith}
 use lib.ListN.{length, drop}
 use borrow.Author.Tests.{le-leb, lt-leb}
-use Rattle.model.specs.Outcome.{Outcome, accepted, _>>=_, _>>_, require}
-use Rattle.model.specs.declared.Delivered.{Delivered}
+use Rattle.model.specs.Outcome.{Outcome, number-of, accepted, _>>=_, _>>_, require}
 use Rattle.model.specs.Lists.{count-holds}
 use Rattle.model.specs.Fields.{bits, only-fill}
 use Rattle.model.specs.Sets.{all-numbers}
@@ -17,7 +16,8 @@ use Rattle.model.specs.Delivery.{read-lists, read-delivery}
 use Rattle.model.specs.Calls.{delivered}
 use Rattle.fields.specs.Positions.{take-at, field-says}
 use Rattle.fields.proofs.Fields.{took}
-use Rattle.decode.specs.Answers.{read-says, refused-walk, total}
+use Rattle.decode.specs.declared.Read.{Read}
+use Rattle.decode.specs.Answers.{read-says, total}
 use Rattle.decode.proofs.Reading.{Kept, kept, lost}
 use Rattle.decode.proofs.Bounds.{All, lists-next}
 use Rattle.decode.proofs.Whole.{reads-no-number, reads-wrong-number, reads-too-many, reads-on, refusal, success}
@@ -102,19 +102,20 @@ enum-known-walk c = search needs
 enum-told-2 : tie.Need-enum-told-2
 enum-told-2 c = search needs
 
-refused-walk-requires : tie.Need-refused-walk-requires
-refused-walk-requires c κs = search needs
+number-of-requires : tie.Need-number-of-requires
+number-of-requires c κs = search needs
 
 returns-5 : tie.Need-returns-5
+unfolding number-of
 returns-5 c =
     let w = c .before .before .before in
     let args = w .before .before .before .before .before .before .before .before .before .before .before .before .args in
     let told = c .before .enum-told2 .given .1 in
-    ap (λ (r : Delivered). delivered r (args .numbers .now) (args .ends .now)) (c .refused-walk .ensures ∙ ap refused-walk told)
+    ap (λ (n : ℕ). delivered (record { number = n; lists = 0; numbers = 0 }) (args .numbers .now) (args .ends .now)) (c .number-of .ensures ∙ ap (λ (r : Read). number-of (read-says r)) told)
     ∙ refusal (args .bytes .now) (args .numbers .now) (args .ends .now) (on (w .before) (lost _ _ _ (sym (w .walk-lists .ensures) ∙ ap read-says told)))
 
-only-zeros-requires : tie.Need-only-zeros-requires
-only-zeros-requires c κs = let w = walked-next c in (w .inside, omega (arith, w .near, six (c .before .before .before .before .before .before .before .before)))
+only-fill-requires : tie.Need-only-fill-requires
+only-fill-requires c κs = let w = walked-next c in (w .inside, omega (arith, w .near, six (c .before .before .before .before .before .before .before .before)))
 
 store-lists-requires : tie.Need-store-lists-requires
 store-lists-requires c κs =
@@ -142,7 +143,7 @@ returns-6 c =
     let args = told2 .before .before .before .before .before .before .before .before .before .before .before .before .before .before .before .args in
     let w = walked told2 in
     let rows = st .store-lists .ensures (w .got) (told2 .before .walk .given .0 .1 .0) (w .read) in
-    let fill : only-fill (drop (told2 .before .walk .given .0 .1 .0) (bits (args .bytes .now))) ≡ true = sym (st .before .before .before .before .only-zeros .ensures) ∙ st .before .before .before .if4 .taken in
+    let fill : only-fill (drop (told2 .before .walk .given .0 .1 .0) (bits (args .bytes .now))) ≡ true = sym (st .before .before .before .before .only-fill .ensures) ∙ st .before .before .before .if4 .taken in
     let lists : c .before .wide2 .result ≡ length (w .got) = c .before .wide2 .ensures ∙ sym (walked-next told2 .many) in
     let numbers : c .wide3 .result ≡ length (all-numbers (w .got)) = c .wide3 .ensures ∙ sym (w .is) in
     ap₂ (λ (a b : ℕ). delivered (record { number = 0; lists = a; numbers = b }) (st .store-lists .last .1 .1 .1 .0) (st .store-lists .last .1 .1 .1 .1 .0)) lists numbers
@@ -153,7 +154,7 @@ returns-7 : tie.Need-returns-7
 returns-7 c =
     let told2 = c .before .before in
     let args = told2 .before .before .before .before .before .before .before .before .before .before .before .before .before .before .before .args in
-    let fill : only-fill (drop (told2 .before .walk .given .0 .1 .0) (bits (args .bytes .now))) ≡ false = sym (c .before .only-zeros .ensures) ∙ c .if4 .left in
+    let fill : only-fill (drop (told2 .before .walk .given .0 .1 .0) (bits (args .bytes .now))) ≡ false = sym (c .before .only-fill .ensures) ∙ c .if4 .left in
     refusal (args .bytes .now) (args .numbers .now) (args .ends .now) (on (told2 .before .before .before .before) (walked told2 .read) ∙ rw fill)
 
 pub decode-delivery-spec : {M : Type 1} → statement M
@@ -171,9 +172,9 @@ decode-delivery-spec =
     walk-lists-requires
     enum-known-walk
     enum-told-2
-    refused-walk-requires
+    number-of-requires
     returns-5
-    only-zeros-requires
+    only-fill-requires
     store-lists-requires
     wide-requires-2
     wide-requires-3

@@ -8,11 +8,12 @@ use native.Mathlib.Omega.{arith}
 use lib.Dec.{eqb}
 use lib.ListN.{length}
 use borrow.Author.Tests.{eq-eqb, ne-eqb}
-use Rattle.model.specs.Outcome.{accepted, require, _>>_}
+use Rattle.model.specs.Outcome.{number-of, refused, accepted, require, _>>_}
 use Rattle.model.specs.Delivery.{largest-gap, width, read-gaps, read-list}
 use Rattle.fields.specs.Positions.{take-at}
+use Rattle.decode.specs.declared.Head.{Head}
 use Rattle.decode.specs.Heads.{header}
-use Rattle.decode.specs.Answers.{head-says, read-says, refused-head, only}
+use Rattle.decode.specs.Answers.{head-says, read-says, only}
 use Rattle.decode.proofs.Reading.{Kept, kept, lost, only-stop, only-is, follow, list-short, list-more, follow-none, follow-one, follow-more}
 use Rattle.decode.proofs.Bounds.{header-next, gaps-next}
 use Rattle.decode.proofs.walk_list.Statement.{statement}
@@ -62,15 +63,16 @@ enum-known-head c = search needs
 enum-told : tie.Need-enum-told
 enum-told c = search needs
 
-refused-head-requires : tie.Need-refused-head-requires
-refused-head-requires c κs = search needs
+head-number-requires : tie.Need-head-number-requires
+head-number-requires c κs = search needs
 
 returns : tie.Need-returns
+unfolding number-of
 returns c =
     let r = c .before .before .before in
     let args = r .before .before .args in
     let told = c .before .enum-told .given .1 in
-    ap read-says (c .refused-head .ensures ∙ ap refused-head told)
+    ap refused (c .head-number .ensures ∙ ap (λ (h : Head). number-of (head-says h)) told)
     ∙ sym (only-stop length (list-short (take-at (args .s .now)) (args .room) (args .at) (sym (r .read-head .ensures) ∙ ap head-says told)))
 
 returns-2 : tie.Need-returns-2
@@ -131,7 +133,7 @@ walk-list-spec =
     read-head-requires
     enum-known-head
     enum-told
-    refused-head-requires
+    head-number-requires
     returns
     returns-2
     sub-walk-gaps

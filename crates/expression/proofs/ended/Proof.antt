@@ -1,4 +1,4 @@
--- `expression::ended` meets its contract: of packed bits by `only_zeros`; of a row nothing is left from its end on (`left-none`).
+-- `expression::ended` meets its contract: of packed bits by `only_fill`; of a row nothing is left from its end on (`left-none`).
 -- Assumes nothing.
 use mathlib.Core.Path.{_≡_, sym, _∙_}
 use Prim.Native.Nat.{ℕ, _-_}
@@ -14,14 +14,14 @@ use Rattle.expression.proofs.ended.Tie as tie
 enum-told : tie.Need-enum-told
 enum-told c = search needs
 
-only-zeros-requires : tie.Need-only-zeros-requires
-only-zeros-requires c κs = omega arith
+only-fill-requires : tie.Need-only-fill-requires
+only-fill-requires c κs = omega arith
 
 enum-told-2 : tie.Need-enum-told-2
 enum-told-2 c = search needs
 
 returns : tie.Need-returns
-returns c = rw (c .before .enum-told .given .1, c .only-zeros .ensures)
+returns c = rw (c .before .enum-told .given .1, c .only-fill .ensures)
 
 -- nothing is left from the end on
 left-none : (n p : ℕ) → leb n p ≡ eqb (n - p) 0
@@ -35,4 +35,4 @@ returns-2 c =
     rw (c .enum-told2 .given .1, length-drop) (left-none (length (a .s .now)) (a .at))
 
 pub ended-spec : {M : Type 1} → statement M
-ended-spec = tie.close (tie.spec enum-told only-zeros-requires enum-told-2 returns returns-2)
+ended-spec = tie.close (tie.spec enum-told only-fill-requires enum-told-2 returns returns-2)

@@ -1,4 +1,4 @@
--- `fields::only_zeros` meets its contract: fewer than eight bits are left if the position lies in the last byte, and they
+-- `fields::only_fill` meets its contract: fewer than eight bits are left if the position lies in the last byte, and they
 -- are 0 if the number that they write is. Assumes nothing.
 use borrow.Author.Needs.{needs}
 use mathlib.Core.Path.{_≡_, refl, sym, ap, ap₂, _∙_}
@@ -13,8 +13,8 @@ use borrow.Author.Tests.{lt-ltb, le-ltb}
 use Rattle.model.specs.Fields.{bits, value, zeros, only-fill}
 use Rattle.model.proofs.Bits.{bits-length}
 use Rattle.fields.proofs.Fields.{zeros-value}
-use Rattle.fields.proofs.only_zeros.Statement.{statement}
-use Rattle.fields.proofs.only_zeros.Tie as tie
+use Rattle.fields.proofs.only_fill.Statement.{statement}
+use Rattle.fields.proofs.only_fill.Tie as tie
 
 -- how many bits are left
 left : (s : List ℕ) (at : ℕ) → length (drop at (bits s)) ≡ 8 * length s - at
@@ -67,8 +67,8 @@ returns-3 c =
     let l = left (args .s .now) (args .at) in
     ap (λ (v : ℕ). eqb v 0) (c .field-at .ensures ∙ ap value (take-all (8 - c .before .before .before .before .bit-of .result) bs (omega arith))) ∙ few bs (omega arith)
 
-pub only-zeros-spec : {M : Type 1} → statement M
-only-zeros-spec =
+pub only-fill-spec : {M : Type 1} → statement M
+only-fill-spec =
     tie.close
     (tie.spec
     bit-of-requires
