@@ -74,7 +74,7 @@ fn bytes_at(s: &[u8], first: usize, n: usize) -> u64
 
 // The field of w bits at the bit position at, whose bits are all there.
 fn field_at(s: &[u8], at: usize, w: usize) -> u32
-    requires { ⌜ (w ≤ 32) × (at + w ≤ 8 * length (now s)) × (at < 2 ^ 62) ⌝ }
+    requires { ⌜ (w ≤ 32) × (at + w ≤ 8 * length (now s)) ⌝ }
     ensures { λ r. ⌜ r ≡ value (take w (drop at (bits (now (s .entry))))) ⌝ }
 {
     let off = bit_of(at);
@@ -122,7 +122,7 @@ pub fn only_fill(s: &[u8], at: usize) -> bool
 
 // Puts the n bytes of x, the most significant first, from `first` on.
 fn put_bytes(s: &mut [u8], first: usize, n: usize, x: u64)
-    requires { ⌜ (n ≤ 5) × (first + n ≤ length (now s)) × (x < 2 ^ (8 * n)) ⌝ }
+    requires { ⌜ (n ≤ 5) × (first + n ≤ length (now s)) ⌝ }
     ensures { λ _. ⌜ now (s .exit) ≡ put-bits (now (s .entry)) (8 * first) (field (8 * n) x) ⌝ }
 {
     let mut i = 0;
@@ -141,7 +141,7 @@ fn byte(x: u64) -> u8
 
 // Puts the w bits of v at the bit position at, none for a width of 0; every other bit stays.
 pub fn put_field(s: &mut [u8], at: usize, w: usize, v: u32)
-    requires { ⌜ (w ≤ 32) × (v < 2 ^ w) × (at + w ≤ 8 * length (now s)) × (at < 2 ^ 62) ⌝ }
+    requires { ⌜ (w ≤ 32) × (v < 2 ^ w) × (at + w ≤ 8 * length (now s)) ⌝ }
     ensures { λ _. ⌜ now (s .exit) ≡ put-bits (now (s .entry)) at (field w v) ⌝ }
 {
     let first = byte_of(at);

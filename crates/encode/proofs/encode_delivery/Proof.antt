@@ -129,9 +129,8 @@ sub-put-field c = omega (arith, next-is (c .before .before .before))
 put-field-requires-2 : tie.Need-put-field-requires-2
 put-field-requires-2 c κs =
     let p = c .before .before .before in
-    let e = p .before .before .before .before .before .before .before .before .before .before in
     let n = next-is p in
-    (omega (arith, n), pow-pos _, omega (arith, n, p .before .before .before .before .before .before .before .before .if5 .left, p .before .before .before .before .put-field .kept .0, p .put-lists .kept .0), omega (arith, n, few e))
+    (omega (arith, n), pow-pos _, omega (arith, n, p .before .before .before .before .before .before .before .before .if5 .left, p .before .before .before .before .put-field .kept .0, p .put-lists .kept .0))
 
 same-length : tie.Need-same-length
 same-length c = search needs

@@ -69,7 +69,7 @@ sub-put-field-2 : tie.Need-sub-put-field-2 Inv-loop μ-loop
 sub-put-field-2 c = omega (arith, this (c .before .before) .above)
 
 put-field-requires : tie.Need-put-field-requires Inv-loop μ-loop
-put-field-requires c κs = let r = room (c .before .before) in (omega arith, this (c .before .before) .fits, r .0, r .2)
+put-field-requires c κs = let r = room (c .before .before) in (omega arith, this (c .before .before) .fits, r .0)
 
 add-next : tie.Need-add-next Inv-loop μ-loop
 add-next c = omega (arith, room (c .before .before .before .before .before))

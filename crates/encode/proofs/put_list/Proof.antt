@@ -54,7 +54,7 @@ put-field-requires : tie.Need-put-field-requires
 put-field-requires c κs =
     let start = c .before .before .before .before in
     let args = start .args in
-    (omega arith, omega (arith, c .narrow .ensures, start .pre .few), omega (arith, sized start, size-any (length (args .list .now)) (args .w), start .pre .room), omega (arith, start .pre .low))
+    (omega arith, omega (arith, c .narrow .ensures, start .pre .few), omega (arith, sized start, size-any (length (args .list .now)) (args .w), start .pre .room))
 
 add-result : tie.Need-add-result
 add-result c = search needs
@@ -84,7 +84,6 @@ put-field-requires-2 c κs =
       omega arith,
       p .before .before .before .shared-slice-known .given 0 .fits,
       omega (arith, sized start, size-some (length (args .list .now)) (args .w) (omega (arith, e .if1 .left)), start .pre .room, p .put-field .kept .0),
-      omega (arith, start .pre .low),
     )
 
 add-result-2 : tie.Need-add-result-2
@@ -121,7 +120,6 @@ put-field-requires-3 c κs =
       omega arith,
       omega (arith, c .narrow2 .ensures, w .one, w .most),
       omega (arith, sized start, size-more (length (args .list .now)) (args .w) (many p2 (c .before .before .if2 .left)), start .pre .room, p .put-field .kept .0, p2 .put-field2 .kept .0),
-      omega (arith, start .pre .low),
     )
 
 add-put-gaps : tie.Need-add-put-gaps

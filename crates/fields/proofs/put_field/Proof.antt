@@ -113,14 +113,7 @@ join-requires-2 c κs =
     )
 
 put-bytes-requires : tie.Need-put-bytes-requires
-put-bytes-requires c κs =
-    let h = c .before .before .before .before in
-    let args = h .before .before .before .before .before .before .before .args in
-    let n : ℕ = h .before .before .before .byte-of2 .result in
-    let e : ℕ = 8 * n - h .before .before .before .before .bit-of .result - args .w in
-    let all : args .at % 8 + args .w + e ≡ 8 * n = omega arith in
-    let low : c .before .low-bits .result < 2 ^ e = rw (c .before .low-bits .ensures) (mod-lt _ (pow-pos e)) in
-    (omega arith, omega arith, subst (λ (k : ℕ). c .join2 .result < 2 ^ k) all (digits (args .at % 8 + args .w) e (joined-lt (c .before .before .before)) low (c .join2 .ensures)))
+put-bytes-requires c κs = search needs
 
 same-length : tie.Need-same-length
 same-length c = search needs

@@ -132,8 +132,7 @@ sub-put-field c = omega arith
 put-field-requires : tie.Need-put-field-requires
 put-field-requires c κs =
     let put = c .before .before .before in
-    let n = put .before .before .before .before in
-    (omega arith, pow-pos _, omega (arith, put .put-nodes .kept .0, put .before .before .before .if3 .left), omega (arith, counted n .few))
+    (omega arith, pow-pos _, omega (arith, put .put-nodes .kept .0, put .before .before .before .if3 .left))
 
 same-length : tie.Need-same-length
 same-length c = let filled = c .before .before in filled .put-field .kept .0 ∙ filled .before .before .before .before .put-nodes .kept .0

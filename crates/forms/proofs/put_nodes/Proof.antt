@@ -49,7 +49,7 @@ bits-of-requires c κs = search needs
 put-field-requires : tie.Need-put-field-requires Inv-loop μ-loop
 put-field-requires c κs =
     let a = way (c .before) in
-    (omega (arith, a .few), a .small, omega (arith, left (c .before) .1), omega arith)
+    (omega (arith, a .few), a .small, omega (arith, left (c .before) .1))
 
 add-at : tie.Need-add-at Inv-loop μ-loop
 add-at c = omega (arith, way (c .before .before .before .before .before) .few)
