@@ -330,21 +330,15 @@ pub fn decode_delivery(bytes: &[u8], numbers: &mut [u32], ends: &mut [u32]) -> D
             numbers: 0,
         };
     };
-    if n == 0 {
+    let many = wide(n);
+    if !lists::count_holds(many) {
         return Delivered {
             number: 7,
             lists: 0,
             numbers: 0,
         };
     }
-    if 32 < n {
-        return Delivered {
-            number: 7,
-            lists: 0,
-            numbers: 0,
-        };
-    }
-    if ends.len() < wide(n) {
+    if ends.len() < many {
         return Delivered {
             number: 6,
             lists: 0,
@@ -367,7 +361,7 @@ pub fn decode_delivery(bytes: &[u8], numbers: &mut [u32], ends: &mut [u32]) -> D
         store_lists(bytes, next, n, numbers, ends);
         return Delivered {
             number: 0,
-            lists: wide(n),
+            lists: many,
             numbers: wide(count),
         };
     }

@@ -152,13 +152,7 @@ fn put_lists(s: &mut [u8], numbers: &[u32], ends: &[u32], widths: [u8; 32]) -> u
 pub fn encode_delivery(numbers: &[u32], ends: &[u32], bytes: &mut [u8]) -> Written
     ensures { λ r. ⌜ written r (now (bytes .exit)) ≡ encode-delivery (now (numbers .entry)) (now (ends .entry)) (now (bytes .entry)) ⌝ }
 {
-    if ends.len() == 0 {
-        return Written {
-            number: 7,
-            count: 0,
-        };
-    }
-    if 32 < ends.len() {
+    if !lists::count_holds(ends.len()) {
         return Written {
             number: 7,
             count: 0,

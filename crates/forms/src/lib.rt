@@ -3,7 +3,6 @@
 ghost use mathlib.Core.Path.{_≡_};
 ghost use Prim.Native.Nat.{_*_, _≤_};
 ghost use lib.ListN.{length};
-ghost use Rattle.model.specs.Lists.{count-holds};
 ghost use Rattle.model.specs.Calls.{written, unpack-expression, pack-expression};
 ghost use Rattle.fields.specs.Rows.{lay};
 ghost use Rattle.fields.specs.Positions.{put-bits};
@@ -22,16 +21,6 @@ fn refused(number: u32) -> Written
     ensures { λ r. ⌜ r ≡ refusal number ⌝ }
 {
     Written { number, count: 0 }
-}
-
-// Whether there are 1 to 32 lists.
-fn lists_hold(lists: usize) -> bool
-    ensures { λ r. ⌜ r ≡ count-holds lists ⌝ }
-{
-    if lists == 0 {
-        return false;
-    }
-    lists <= 32
 }
 
 // Copies `from` to the start of `lent`.
@@ -100,7 +89,7 @@ fn put_nodes(s: &mut [u8], row: &[u8])
 pub fn unpack_expression(bytes: &[u8], lists: usize, row: &mut [u8]) -> Written
     ensures { λ r. ⌜ written r (now (row .exit)) ≡ unpack-expression (now (bytes .entry)) lists (now (row .entry)) ⌝ }
 {
-    if !lists_hold(lists) {
+    if !lists::count_holds(lists) {
         return refused(7);
     }
     let read = expression::read_expression(Form::Packed, bytes, lists);
@@ -120,7 +109,7 @@ pub fn unpack_expression(bytes: &[u8], lists: usize, row: &mut [u8]) -> Written
 pub fn pack_expression(row: &[u8], lists: usize, bytes: &mut [u8]) -> Written
     ensures { λ r. ⌜ written r (now (bytes .exit)) ≡ pack-expression (now (row .entry)) lists (now (bytes .entry)) ⌝ }
 {
-    if !lists_hold(lists) {
+    if !lists::count_holds(lists) {
         return refused(7);
     }
     let read = expression::read_expression(Form::Row, row, lists);

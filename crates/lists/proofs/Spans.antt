@@ -4,28 +4,21 @@ use mathlib.Core.Bool.{Bool, true, false}
 use mathlib.Core.List.{List, [], _∷_}
 use Prim.Native.Nat.{ℕ, zero, suc, _+_, _-_, _≤_, _<_}
 use native.Mathlib.Omega.{arith}
-use borrow.Author.Tests.{le-leb, lt-leb, lt-ltb}
+use borrow.Author.Tests.{leb-true, lt-ltb}
+use lib.Dec.{leb}
 use lib.ListN.{length, getD, drop, length-take, length-drop}
 use Rattle.model.specs.Outcome.{Outcome, refused, accepted, _>>_, require, number-of}
 use Rattle.model.specs.Lists.{all-ascending, part, lists-from, count-holds, ends-hold, lists-of, or-empty, span-of}
-use Rattle.model.proofs.Order.{split}
+use Rattle.model.proofs.Order.{and-true, split}
 use Rattle.model.proofs.Accepted.{lists-accepted}
 use Rattle.model.proofs.Laid.{lists-length, part-missing, part-refused}
 use Rattle.lists.proofs.Ends.{hold-next}
 
 -- ---- the number of lists
 
-pub count-none : (n : ℕ) → n < 1 → count-holds n ≡ false
+pub counts : (n : ℕ) → count-holds n ≡ true → (1 ≤ n) × (n ≤ 32)
 unfolding count-holds
-count-none n h = rw (lt-leb 1 n h)
-
-pub count-over : (n : ℕ) → 1 ≤ n → 32 < n → count-holds n ≡ false
-unfolding count-holds
-count-over n h o = rw (le-leb 1 n h, lt-leb n 32 o)
-
-pub count-right : (n : ℕ) → 1 ≤ n → n ≤ 32 → count-holds n ≡ true
-unfolding count-holds
-count-right n h o = rw (le-leb 1 n h, le-leb n 32 o)
+counts n e = let a = and-true (leb 1 n) (leb n 32) e in (leb-true 1 n (a .0), leb-true n 32 (a .1))
 
 -- ---- the place of list k
 

@@ -7,7 +7,7 @@ ghost use Prim.Native.Nat.{_≤_};
 ghost use denote.Ref.{ptr};
 ghost use lib.ListN.{length, getD};
 ghost use Rattle.model.specs.Outcome.{number-of};
-ghost use Rattle.model.specs.Lists.{all-ascending, lists-from, ends-hold, lists-of, span-of, part-of};
+ghost use Rattle.model.specs.Lists.{all-ascending, lists-from, count-holds, ends-hold, lists-of, span-of, part-of};
 ghost use Rattle.lists.specs.Rise.{rise, rise-says};
 ghost use Rattle.lists.specs.Place.{element-at};
 ghost use Rattle.lists.specs.Span.{span-says};
@@ -57,6 +57,16 @@ fn wide(x: u32) -> usize
     x as usize
 }
 
+// 7 does not apply: there are 1 to 32 lists.
+pub fn count_holds(lists: usize) -> bool
+    ensures { λ r. ⌜ r ≡ count-holds lists ⌝ }
+{
+    if lists == 0 {
+        return false;
+    }
+    lists <= 32
+}
+
 // 10 does not apply, with a row of so many numbers.
 pub fn ends_hold(size: usize, ends: &[u32]) -> bool
     ensures { λ r. ⌜ r ≡ ends-hold size 0 (now (ends .entry)) ⌝ }
@@ -102,10 +112,7 @@ fn all_ascending(numbers: &[u32], ends: &[u32]) -> bool
 pub fn test_lists(numbers: &[u32], ends: &[u32]) -> u32
     ensures { λ r. ⌜ r ≡ number-of (lists-of (now (numbers .entry)) (now (ends .entry))) ⌝ }
 {
-    if ends.len() < 1 {
-        return 7;
-    }
-    if 32 < ends.len() {
+    if !count_holds(ends.len()) {
         return 7;
     }
     if !ends_hold(numbers.len(), ends) {

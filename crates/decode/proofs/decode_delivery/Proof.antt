@@ -4,16 +4,17 @@ use borrow.Author.Needs.{needs}
 use mathlib.Core.Path.{_≡_, sym, ap, ap₂, _∙_}
 use mathlib.Core.Bool.{true, false}
 use mathlib.Core.List.{List}
-use Prim.Native.Nat.{ℕ, _*_, _≤_, _<_}
+use Prim.Native.Nat.{ℕ, _*_, _≤_}
 use native.Mathlib.Omega.{arith}
 use lib.ListN.{length, drop}
-use borrow.Author.Tests.{le-leb, lt-leb}
+use borrow.Author.Tests.{not-true, not-false}
 use Rattle.model.specs.Outcome.{Outcome, number-of, accepted, _>>=_, _>>_, require}
 use Rattle.model.specs.Lists.{count-holds}
 use Rattle.model.specs.Fields.{bits, only-fill}
 use Rattle.model.specs.Sets.{all-numbers}
 use Rattle.model.specs.Delivery.{read-lists, read-delivery}
 use Rattle.model.specs.Calls.{delivered}
+use Rattle.lists.proofs.Spans.{counts}
 use Rattle.fields.specs.Positions.{take-at, field-says}
 use Rattle.fields.proofs.Fields.{took}
 use Rattle.decode.specs.declared.Read.{Read}
@@ -31,26 +32,17 @@ number-read c = sym (c .before .before .before .take-field .ensures) ∙ ap fiel
 six : (c : tie.After-known-told) → (c .before .n .given .0 .1 .0 ≡ 6) × (6 ≤ 8 * length (c .before .before .before .before .before .before .before .args .bytes .now))
 six c = let t = took (c .before .before .before .before .before .before .before .args .bytes .now) 6 0 _ (number-read c) in (omega (arith, t .next), omega (arith, t .inside))
 
-none : (n : ℕ) → n ≡ 0 → count-holds n ≡ false
-unfolding count-holds
-none n e = rw e
-
-many : (n : ℕ) → 32 < n → count-holds n ≡ false
-unfolding count-holds
-many n h = rw (le-leb 1 n (omega arith), lt-leb n 32 h)
-
-holds : (c : tie.Else2) → count-holds (c .before .before .before .n .given .0 .0) ≡ true
-unfolding count-holds
-holds c = let n : ℕ = c .before .before .before .n .given .0 .0 in rw (le-leb 1 n (omega (arith, c .before .if1 .left)), le-leb n 32 (omega arith))
+holds : (c : tie.Else1) → count-holds (c .before .before .before .before .n .given .0 .0) ≡ true
+holds c = ap count-holds (sym (c .before .before .wide .ensures)) ∙ sym (c .before .count-holds .ensures) ∙ not-false _ (c .if1 .left)
 
 -- reading goes on with the lists
-on : (c : tie.Else3) {o : Outcome (List (List ℕ) × ℕ)} → let told = c .before .before .before .before in let args = told .before .before .before .before .before .before .before .args in
+on : (c : tie.Else2) {o : Outcome (List (List ℕ) × ℕ)} → let told = c .before .before .before .before in let args = told .before .before .before .before .before .before .before .args in
     read-lists (take-at (args .bytes .now)) (told .before .n .given .0 .0) (length (args .numbers .now)) (told .before .n .given .0 .1 .0) ≡ o
     → read-delivery (length (args .numbers .now)) (length (args .ends .now)) (args .bytes .now) ≡ (o >>= λ r. (require 5 (only-fill (drop (r .1) (bits (args .bytes .now)))) >> accepted (r .0)))
 on c e =
     let told = c .before .before .before .before in
     let args = told .before .before .before .before .before .before .before .args in
-    reads-on (args .bytes .now) (length (args .numbers .now)) (length (args .ends .now)) (number-read told) (holds (c .before .before)) (omega (arith, c .before .wide .ensures)) e
+    reads-on (args .bytes .now) (length (args .numbers .now)) (length (args .ends .now)) (number-read told) (holds (c .before)) (omega (arith, c .before .before .before .wide .ensures)) e
 
 -- the lists that were walked through
 walked : (c : tie.After-known-told2) → let e = c .before .before .before .before in let t = e .before .before .before .before in
@@ -75,26 +67,25 @@ returns c =
     let args = c .before .before .before .before .before .before .args in
     refusal (args .bytes .now) (args .numbers .now) (args .ends .now) (reads-no-number (args .bytes .now) _ _ (sym (c .before .before .take-field .ensures) ∙ ap field-says (c .enum-told .given .1)))
 
-returns-2 : tie.Need-returns-2
-returns-2 c =
-    let args = c .before .before .before .before .before .before .before .before .args in
-    refusal (args .bytes .now) (args .numbers .now) (args .ends .now) (reads-wrong-number (args .bytes .now) _ _ (number-read (c .before)) (none _ (c .if1 .taken)))
-
-returns-3 : tie.Need-returns-3
-returns-3 c =
-    let args = c .before .before .before .before .before .before .before .before .before .args in
-    refusal (args .bytes .now) (args .numbers .now) (args .ends .now) (reads-wrong-number (args .bytes .now) _ _ (number-read (c .before .before)) (many _ (c .if2 .taken)))
-
 wide-requires : tie.Need-wide-requires
 wide-requires c κs = search needs
 
-returns-4 : tie.Need-returns-4
-returns-4 c =
+count-holds-requires : tie.Need-count-holds-requires
+count-holds-requires c κs = search needs
+
+returns-2 : tie.Need-returns-2
+returns-2 c =
+    let args = c .before .before .before .before .before .before .before .before .before .before .args in
+    refusal (args .bytes .now) (args .numbers .now) (args .ends .now)
+    (reads-wrong-number (args .bytes .now) _ _ (number-read (c .before .before .before)) (ap count-holds (sym (c .before .before .wide .ensures)) ∙ sym (c .before .count-holds .ensures) ∙ not-true _ (c .if1 .taken)))
+
+returns-3 : tie.Need-returns-3
+returns-3 c =
     let args = c .before .before .before .before .before .before .before .before .before .before .before .args in
-    refusal (args .bytes .now) (args .numbers .now) (args .ends .now) (reads-too-many (args .bytes .now) _ _ (number-read (c .before .before .before .before)) (holds (c .before .before)) (omega (arith, c .before .wide .ensures)))
+    refusal (args .bytes .now) (args .numbers .now) (args .ends .now) (reads-too-many (args .bytes .now) _ _ (number-read (c .before .before .before .before)) (holds (c .before)) (omega (arith, c .before .before .before .wide .ensures)))
 
 walk-lists-requires : tie.Need-walk-lists-requires
-walk-lists-requires c κs = omega (arith, six (c .before .before .before .before) .0)
+walk-lists-requires c κs = (counts _ (holds (c .before)) .1, omega (arith, six (c .before .before .before .before) .0))
 
 enum-known-walk : tie.Need-enum-known-walk
 enum-known-walk c = search needs
@@ -105,9 +96,9 @@ enum-told-2 c = search needs
 number-of-requires : tie.Need-number-of-requires
 number-of-requires c κs = search needs
 
-returns-5 : tie.Need-returns-5
+returns-4 : tie.Need-returns-4
 unfolding number-of
-returns-5 c =
+returns-4 c =
     let w = c .before .before .before in
     let args = w .before .before .before .before .before .before .before .before .before .before .before .before .args in
     let told = c .before .enum-told2 .given .1 in
@@ -120,14 +111,16 @@ only-fill-requires c κs = let w = walked-next c in (w .inside, omega (arith, w 
 store-lists-requires : tie.Need-store-lists-requires
 store-lists-requires c κs =
     let told2 = c .before .before .before .before in
-    let w = walked told2 in
-    (omega arith, omega (arith, six (told2 .before .before .before .before .before .before .before .before)), omega (arith, told2 .before .before .before .before .before .wide .ensures), record { lists = w .got; next = told2 .before .walk .given .0 .1 .0; read = w .read })
+    let e = told2 .before .before .before .before in
+    let w = walked told2 in (
+      counts _ (holds (e .before)) .1,
+      omega (arith, six (told2 .before .before .before .before .before .before .before .before)),
+      omega (arith, e .before .before .before .wide .ensures, e .if2 .left),
+      record { lists = w .got; next = told2 .before .walk .given .0 .1 .0; read = w .read },
+    )
 
 wide-requires-2 : tie.Need-wide-requires-2
 wide-requires-2 c κs = search needs
-
-wide-requires-3 : tie.Need-wide-requires-3
-wide-requires-3 c κs = search needs
 
 same-length : tie.Need-same-length
 same-length c = search needs
@@ -135,26 +128,26 @@ same-length c = search needs
 same-length-2 : tie.Need-same-length-2
 same-length-2 c = search needs
 
-returns-6 : tie.Need-returns-6
+returns-5 : tie.Need-returns-5
 unfolding total
-returns-6 c =
-    let st = c .before .before .before .before .before .before in
+returns-5 c =
+    let st = c .before .before .before .before .before in
     let told2 = st .before .before .before .before .before in
     let args = told2 .before .before .before .before .before .before .before .before .before .before .before .before .before .before .before .args in
     let w = walked told2 in
     let rows = st .store-lists .ensures (w .got) (told2 .before .walk .given .0 .1 .0) (w .read) in
-    let fill : only-fill (drop (told2 .before .walk .given .0 .1 .0) (bits (args .bytes .now))) ≡ true = sym (st .before .before .before .before .only-fill .ensures) ∙ st .before .before .before .if4 .taken in
-    let lists : c .before .wide2 .result ≡ length (w .got) = c .before .wide2 .ensures ∙ sym (walked-next told2 .many) in
-    let numbers : c .wide3 .result ≡ length (all-numbers (w .got)) = c .wide3 .ensures ∙ sym (w .is) in
+    let fill : only-fill (drop (told2 .before .walk .given .0 .1 .0) (bits (args .bytes .now))) ≡ true = sym (st .before .before .before .before .only-fill .ensures) ∙ st .before .before .before .if3 .taken in
+    let lists : told2 .before .before .before .before .before .before .before .wide .result ≡ length (w .got) = told2 .before .before .before .before .before .before .before .wide .ensures ∙ sym (walked-next told2 .many) in
+    let numbers : c .wide2 .result ≡ length (all-numbers (w .got)) = c .wide2 .ensures ∙ sym (w .is) in
     ap₂ (λ (a b : ℕ). delivered (record { number = 0; lists = a; numbers = b }) (st .store-lists .last .1 .1 .1 .0) (st .store-lists .last .1 .1 .1 .1 .0)) lists numbers
     ∙ ap₂ (λ (a b : List ℕ). delivered (record { number = 0; lists = length (w .got); numbers = length (all-numbers (w .got)) }) a b) (rows .0) (rows .1)
     ∙ success (args .bytes .now) (args .numbers .now) (args .ends .now) (on (told2 .before .before .before .before) (w .read) ∙ rw fill)
 
-returns-7 : tie.Need-returns-7
-returns-7 c =
+returns-6 : tie.Need-returns-6
+returns-6 c =
     let told2 = c .before .before in
     let args = told2 .before .before .before .before .before .before .before .before .before .before .before .before .before .before .before .args in
-    let fill : only-fill (drop (told2 .before .walk .given .0 .1 .0) (bits (args .bytes .now))) ≡ false = sym (c .before .only-fill .ensures) ∙ c .if4 .left in
+    let fill : only-fill (drop (told2 .before .walk .given .0 .1 .0) (bits (args .bytes .now))) ≡ false = sym (c .before .only-fill .ensures) ∙ c .if3 .left in
     refusal (args .bytes .now) (args .numbers .now) (args .ends .now) (on (told2 .before .before .before .before) (walked told2 .read) ∙ rw fill)
 
 pub decode-delivery-spec : {M : Type 1} → statement M
@@ -165,20 +158,19 @@ decode-delivery-spec =
     enum-known-n
     enum-told
     returns
+    wide-requires
+    count-holds-requires
     returns-2
     returns-3
-    wide-requires
-    returns-4
     walk-lists-requires
     enum-known-walk
     enum-told-2
     number-of-requires
-    returns-5
+    returns-4
     only-fill-requires
     store-lists-requires
     wide-requires-2
-    wide-requires-3
     same-length
     same-length-2
-    returns-6
-    returns-7)
+    returns-5
+    returns-6)

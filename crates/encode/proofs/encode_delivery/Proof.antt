@@ -14,7 +14,7 @@ use Rattle.model.specs.Fields.{field}
 use Rattle.model.specs.Delivery.{lists-bits, delivery}
 use Rattle.model.specs.Calls.{written}
 use Rattle.model.proofs.Laid.{lists-length}
-use Rattle.lists.proofs.Spans.{count-none, count-over, count-right}
+use Rattle.lists.proofs.Spans.{counts}
 use Rattle.fields.specs.Rows.{lay}
 use Rattle.fields.specs.Positions.{put-bits}
 use Rattle.encode.specs.declared.Measure.{Measure}
@@ -24,11 +24,11 @@ use Rattle.encode.proofs.encode_delivery.Statement.{statement}
 use Rattle.encode.proofs.encode_delivery.Tie as tie
 
 -- 7 and 10 do not apply
-seven : (c : tie.Else2) → count-holds (length (c .before .before .before .before .before .args .ends .now)) ≡ true
-seven c = count-right (length (c .before .before .before .before .before .args .ends .now)) (omega (arith, c .before .if1 .left)) (omega arith)
+seven : (c : tie.Else1) → count-holds (length (c .before .before .before .before .before .args .ends .now)) ≡ true
+seven c = sym (c .before .count-holds .ensures) ∙ not-false _ (c .if1 .left)
 
-ten : (c : tie.Else3) → let args = c .before .before .before .before .before .before .before .args in ends-hold (length (args .numbers .now)) 0 (args .ends .now) ≡ true
-ten c = sym (c .before .ends-hold .ensures) ∙ not-false _ (c .if3 .left)
+ten : (c : tie.Else2) → let args = c .before .before .before .before .before .before .before .args in ends-hold (length (args .numbers .now)) 0 (args .ends .now) ≡ true
+ten c = sym (c .before .ends-hold .ensures) ∙ not-false _ (c .if2 .left)
 
 -- what the survey found
 record Surveyed (ls : List (List ℕ)) (m : Measure) : Type 0 where
@@ -52,73 +52,71 @@ falls ls m e z = go (all-ascending ls) refl e
     go true h f = absurd (z (ap (λ (x : Measure). x .number) f))
     go false h f = (h, ap (λ (x : Measure). x .number) f)
 
-found : (c : tie.Else4) → let args = c .before .before .before .before .before .before .before .before .before .before .args in Surveyed (lists-from (args .numbers .now) 0 (args .ends .now)) (c .before .before .survey .result)
-found c = let args = c .before .before .before .before .before .before .before .before .before .before .args in surveyed (lists-from (args .numbers .now) 0 (args .ends .now)) (c .before .before .survey .result) (c .before .before .survey .ensures) (c .if4 .left)
+found : (c : tie.Else3) → let args = c .before .before .before .before .before .before .before .before .before .before .args in Surveyed (lists-from (args .numbers .now) 0 (args .ends .now)) (c .before .before .survey .result)
+found c = let args = c .before .before .before .before .before .before .before .before .before .before .args in surveyed (lists-from (args .numbers .now) 0 (args .ends .now)) (c .before .before .survey .result) (c .before .before .survey .ensures) (c .if3 .left)
 
 -- its bits are few, so sums of them stay small
-few : (c : tie.Else4) → c .before .before .survey .result .bits ≤ 134217728
+few : (c : tie.Else3) → c .before .before .survey .result .bits ≤ 134217728
 few c =
     let args = c .before .before .before .before .before .before .before .before .before .before .args in
-    omega (arith, found c .bits, lists-small (args .numbers .now) 0 (args .ends .now) (λ i. c .before .before .before .before .before .before .before .before .before .shared-slice-known .given i .fits) (ten (c .before .before .before)))
+    omega (arith, found c .bits, counts _ (seven (c .before .before .before .before .before)) .1, lists-small (args .numbers .now) 0 (args .ends .now) (λ i. c .before .before .before .before .before .before .before .before .before .shared-slice-known .given i .fits) (ten (c .before .before .before)))
 
 -- the bytes that are written, and there is room for them
-count-is : (c : tie.Else4) → let args = c .before .before .before .before .before .before .before .before .before .before .args in (c .before .before .survey .result .bits + 13) / 8 ≡ length (delivery (lists-from (args .numbers .now) 0 (args .ends .now)))
+count-is : (c : tie.Else3) → let args = c .before .before .before .before .before .before .before .before .before .before .args in (c .before .before .survey .result .bits + 13) / 8 ≡ length (delivery (lists-from (args .numbers .now) 0 (args .ends .now)))
 count-is c = let args = c .before .before .before .before .before .before .before .before .before .before .args in ap (λ (n : ℕ). (n + 13) / 8) (found c .bits) ∙ sym (delivery-length (lists-from (args .numbers .now) 0 (args .ends .now)))
 
 -- where the lists end
 next-is : (c : tie.After-put-lists) → let e = c .before .before .before .before .before .before .before .before .before .before in c .put-lists .result ≡ 6 + e .before .before .survey .result .bits
 next-is c = omega (arith, c .put-lists .ensures .0, found (c .before .before .before .before .before .before .before .before .before .before) .bits)
 
+count-holds-requires : tie.Need-count-holds-requires
+count-holds-requires c κs = search needs
+
 returns : tie.Need-returns
 returns c =
-    let args = c .before .before .before .before .args in
-    refuses-7 (args .numbers .now) (args .ends .now) (args .bytes .now) (count-none (length (args .ends .now)) (omega (arith, c .if1 .taken)))
-
-returns-2 : tie.Need-returns-2
-returns-2 c =
     let args = c .before .before .before .before .before .args in
-    refuses-7 (args .numbers .now) (args .ends .now) (args .bytes .now) (count-over (length (args .ends .now)) (omega arith) (c .if2 .taken))
+    refuses-7 (args .numbers .now) (args .ends .now) (args .bytes .now) (sym (c .before .count-holds .ensures) ∙ not-true _ (c .if1 .taken))
 
 ends-hold-requires : tie.Need-ends-hold-requires
 ends-hold-requires c κs = search needs
 
-returns-3 : tie.Need-returns-3
-returns-3 c =
+returns-2 : tie.Need-returns-2
+returns-2 c =
     let args = c .before .before .before .before .before .before .before .args in
-    refuses-10 (args .numbers .now) (args .ends .now) (args .bytes .now) (seven (c .before .before)) (sym (c .before .ends-hold .ensures) ∙ not-true _ (c .if3 .taken))
+    refuses-10 (args .numbers .now) (args .ends .now) (args .bytes .now) (seven (c .before .before)) (sym (c .before .ends-hold .ensures) ∙ not-true _ (c .if2 .taken))
 
 survey-requires : tie.Need-survey-requires
-survey-requires c κs = (ten c, omega arith)
+survey-requires c κs = (ten c, counts _ (seven (c .before .before)) .1)
 
-returns-4 : tie.Need-returns-4
-returns-4 c =
+returns-3 : tie.Need-returns-3
+returns-3 c =
     let s = c .before .before in
     let args = s .before .before .before .before .before .before .before .before .args in
-    let f = falls (lists-from (args .numbers .now) 0 (args .ends .now)) (s .survey .result) (s .survey .ensures) (c .if4 .taken) in
+    let f = falls (lists-from (args .numbers .now) 0 (args .ends .now)) (s .survey .result) (s .survey .ensures) (c .if3 .taken) in
     ap (λ (n : ℕ). written (record { number = n; count = 0 }) (args .bytes .now)) (f .1)
     ∙ refuses-11 (args .numbers .now) (args .ends .now) (args .bytes .now) (seven (s .before .before .before)) (ten (s .before)) (f .0)
 
 add-count : tie.Need-add-count
 add-count c = omega (arith, few (c .before))
 
-returns-5 : tie.Need-returns-5
-returns-5 c =
+returns-4 : tie.Need-returns-4
+returns-4 c =
     let e = c .before .before in
     let args = e .before .before .before .before .before .before .before .before .before .before .args in
     refuses-6 (args .numbers .now) (args .ends .now) (args .bytes .now) (seven (e .before .before .before .before .before)) (ten (e .before .before .before)) (found e .up) (omega (arith, count-is e))
 
 narrow-requires : tie.Need-narrow-requires
-narrow-requires c κs = search needs
+narrow-requires c κs = omega (arith, counts _ (seven (c .before .before .before .before .before .before .before .before .before)) .1)
 
 put-field-requires : tie.Need-put-field-requires
-put-field-requires c κs = search needs
+put-field-requires c κs = (omega arith, omega (arith, c .narrow .ensures, counts _ (seven (c .before .before .before .before .before .before .before .before .before .before)) .1), omega arith)
 
 put-lists-requires : tie.Need-put-lists-requires
 put-lists-requires c κs =
     let e = c .before .before .before .before .before .before .before .before .before in
     let p = c .before .before .before in
     let f = found e in
-    record { hold = ten (e .before .before .before); few = omega arith; ascend = f .up; wide = f .widths; room = omega (arith, f .bits, c .before .before .before .before .before .before .before .if5 .left, p .put-field .kept .0) }
+    record { hold = ten (e .before .before .before); few = counts _ (seven (e .before .before .before .before .before)) .1; ascend = f .up; wide = f .widths; room = omega (arith, f .bits, c .before .before .before .before .before .before .before .if4 .left, p .put-field .kept .0) }
 
 mul-put-field : tie.Need-mul-put-field
 mul-put-field c = omega (arith, few (c .before .before .before .before .before .before .before .before .before .before .before .before .before))
@@ -130,13 +128,13 @@ put-field-requires-2 : tie.Need-put-field-requires-2
 put-field-requires-2 c κs =
     let p = c .before .before .before in
     let n = next-is p in
-    (omega (arith, n), pow-pos _, omega (arith, n, p .before .before .before .before .before .before .before .before .if5 .left, p .before .before .before .before .put-field .kept .0, p .put-lists .kept .0))
+    (omega (arith, n), pow-pos _, omega (arith, n, p .before .before .before .before .before .before .before .before .if4 .left, p .before .before .before .before .put-field .kept .0, p .put-lists .kept .0))
 
 same-length : tie.Need-same-length
 same-length c = search needs
 
-returns-6 : tie.Need-returns-6
-returns-6 c =
+returns-5 : tie.Need-returns-5
+returns-5 c =
     let q = c .before .before in
     let p = q .before .before .before .before in
     let one = p .before .before .before .before in
@@ -145,7 +143,7 @@ returns-6 c =
     let ls : List (List ℕ) = lists-from (args .numbers .now) 0 (args .ends .now) in
     let n = count-is e in
     let next = next-is p in
-    let room : length (delivery ls) ≤ length (args .bytes .now) = omega (arith, n, p .before .before .before .before .before .before .before .before .if5 .left) in
+    let room : length (delivery ls) ≤ length (args .bytes .now) = omega (arith, n, p .before .before .before .before .before .before .before .before .if4 .left) in
     let first : one .put-field .last .0 ≡ put-bits (args .bytes .now) 0 (field 6 (length ls)) =
     one .put-field .ensures ∙ ap (λ (k : ℕ). put-bits (args .bytes .now) 0 (field 6 k)) (one .before .narrow .ensures ∙ sym (lists-length (args .numbers .now) 0 (args .ends .now))) in
     let row = delivered (args .bytes .now) ls (8 * ((e .before .before .survey .result .bits + 13) / 8) - p .put-lists .result) (λ i. e .before .before .before .before .before .before .before .slice-known .given i .fits) room first (p .put-lists .ensures .1) (p .put-lists .ensures .0) (q .put-field2 .ensures) (omega (arith, n, next)) in
@@ -156,14 +154,14 @@ pub encode-delivery-spec : {M : Type 1} → statement M
 encode-delivery-spec =
     tie.close
     (tie.spec
+    count-holds-requires
     returns
-    returns-2
     ends-hold-requires
-    returns-3
+    returns-2
     survey-requires
-    returns-4
+    returns-3
     add-count
-    returns-5
+    returns-4
     narrow-requires
     put-field-requires
     put-lists-requires
@@ -171,4 +169,4 @@ encode-delivery-spec =
     sub-put-field
     put-field-requires-2
     same-length
-    returns-6)
+    returns-5)

@@ -36,7 +36,7 @@ read c = let args = c .before .before .before .before .before .args in handed (g
 
 -- 7 does not apply
 holds : (c : tie.Else1) → count-holds (c .before .before .before .before .args .lists) ≡ true
-holds c = sym (c .before .lists-hold .ensures) ∙ not-false _ (c .if1 .left)
+holds c = sym (c .before .count-holds .ensures) ∙ not-false _ (c .if1 .left)
 
 -- its packed bits, and their bytes
 abbrev bits : tie.After-read-expression → List Bool
@@ -58,8 +58,8 @@ counted c =
     let long : c .packed-bits .result ≡ length (bits e) = c .packed-bits .ensures ∙ ap (λ (l : List ℕ). length (row-bits l)) (r .nodes) in
     record { bits-long = long; few = omega (arith, row-few (of-read row (got e)), r .count, r .few); bytes-long = ap (λ (k : ℕ). (k + 7) / 8) long ∙ sym (bytes-length (bits e)) }
 
-lists-hold-requires : tie.Need-lists-hold-requires
-lists-hold-requires c κs = search needs
+count-holds-requires : tie.Need-count-holds-requires
+count-holds-requires c κs = search needs
 
 refused-requires : tie.Need-refused-requires
 refused-requires c κs = search needs
@@ -67,7 +67,7 @@ refused-requires c κs = search needs
 returns : tie.Need-returns
 returns c =
     let args = c .before .before .before .before .before .args in
-    let wrong : count-holds (args .lists) ≡ false = sym (c .before .before .lists-hold .ensures) ∙ not-true _ (c .before .if1 .taken) in
+    let wrong : count-holds (args .lists) ≡ false = sym (c .before .before .count-holds .ensures) ∙ not-true _ (c .before .if1 .taken) in
     ap (λ (r : Written). written r (args .bytes .now)) (c .refused .ensures) ∙ pack-wrong (args .row .now) (args .lists) (args .bytes .now) wrong
 
 read-expression-requires : tie.Need-read-expression-requires
@@ -163,7 +163,7 @@ pub pack-expression-spec : {M : Type 1} → statement M
 pack-expression-spec =
     tie.close
     (tie.spec
-    lists-hold-requires
+    count-holds-requires
     refused-requires
     returns
     read-expression-requires

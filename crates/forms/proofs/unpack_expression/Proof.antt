@@ -33,10 +33,10 @@ read c = let args = c .before .before .before .before .before .args in handed (g
 
 -- 7 does not apply
 holds : (c : tie.Else1) → count-holds (c .before .before .before .before .args .lists) ≡ true
-holds c = sym (c .before .lists-hold .ensures) ∙ not-false _ (c .if1 .left)
+holds c = sym (c .before .count-holds .ensures) ∙ not-false _ (c .if1 .left)
 
-lists-hold-requires : tie.Need-lists-hold-requires
-lists-hold-requires c κs = search needs
+count-holds-requires : tie.Need-count-holds-requires
+count-holds-requires c κs = search needs
 
 refused-requires : tie.Need-refused-requires
 refused-requires c κs = search needs
@@ -44,7 +44,7 @@ refused-requires c κs = search needs
 returns : tie.Need-returns
 returns c =
     let args = c .before .before .before .before .before .args in
-    let wrong : count-holds (args .lists) ≡ false = sym (c .before .before .lists-hold .ensures) ∙ not-true _ (c .before .if1 .taken) in
+    let wrong : count-holds (args .lists) ≡ false = sym (c .before .before .count-holds .ensures) ∙ not-true _ (c .before .if1 .taken) in
     ap (λ (r : Written). written r (args .row .now)) (c .refused .ensures) ∙ unpack-wrong (args .bytes .now) (args .lists) (args .row .now) wrong
 
 read-expression-requires : tie.Need-read-expression-requires
@@ -105,7 +105,7 @@ pub unpack-expression-spec : {M : Type 1} → statement M
 unpack-expression-spec =
     tie.close
     (tie.spec
-    lists-hold-requires
+    count-holds-requires
     refused-requires
     returns
     read-expression-requires
