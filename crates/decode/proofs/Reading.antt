@@ -12,7 +12,7 @@ use Rattle.model.specs.Outcome.{Outcome, refused, accepted, _>>=_, _>>_, requir
 use Rattle.model.specs.Lists.{top}
 use Rattle.model.specs.Sets.{all-numbers}
 use Rattle.model.specs.Delivery.{largest-gap, width, read-gaps, read-later, read-body, read-list, read-lists}
-use Rattle.model.proofs.Accepted.{accepted-same, bound}
+use Rattle.model.proofs.Accepted.{accepted-same, bound, assoc}
 use Rattle.decode.specs.Heads.{Header, header-width, header-first, header, gap}
 use Rattle.decode.specs.Answers.{only, total}
 
@@ -60,10 +60,6 @@ total-cons l f (refused n) = refl
 total-cons l f (accepted r) = ap (λ (k : ℕ). accepted (f k, r .1)) (length-append l (all-numbers (r .0)))
 
 -- ---- steps one after the other
-
-assoc : {A B C : Type 0} (o : Outcome A) (f : A → Outcome B) (g : B → Outcome C) (h : A → Outcome C) → ((a : A) → (f a >>= g) ≡ h a) → ((o >>= f) >>= g) ≡ (o >>= h)
-assoc (refused n) f g h e = refl
-assoc (accepted a) f g h e = e a
 
 tested : {B C : Type 0} (n : ℕ) (b : Bool) (o : Outcome B) (g : B → Outcome C) (p : Outcome C) → (o >>= g) ≡ p → ((require n b >> o) >>= g) ≡ (require n b >> p)
 tested n true o g p e = e

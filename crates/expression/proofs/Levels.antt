@@ -14,14 +14,10 @@ use Rattle.model.specs.Outcome.{Outcome, refused, accepted, _>>=_, _>>_}
 use Rattle.model.specs.Expression.{Tree, union, intersection, Members, count}
 use Rattle.model.specs.Forms.{nodes, nodes-all, read-members, operator, read-below, read-tree}
 use Rattle.model.proofs.Order.{not-both}
-use Rattle.model.proofs.Accepted.{Few}
+use Rattle.model.proofs.Accepted.{Few, assoc}
 use Rattle.expression.specs.Reading.{named, members}
 
--- two steps as one
-over : {A B C : Type 0} (o : Outcome A) (f : A → Outcome B) (g : B → Outcome C) (h : A → Outcome C) → ((a : A) → (f a >>= g) ≡ h a) → ((o >>= f) >>= g) ≡ (o >>= h)
-over (refused n) f g h e = refl
-over (accepted a) f g h e = e a
-
+-- the steps that follow may be equal ones
 same : {A B : Type 0} (o : Outcome A) (f g : A → Outcome B) → ((a : A) → f a ≡ g a) → (o >>= f) ≡ (o >>= g)
 same (refused n) f g e = refl
 same (accepted a) f g e = e a
@@ -62,9 +58,9 @@ module _ {S B : Type 0} (lists : ℕ) (take-one : S → Outcome (Node × S)) whe
   members-forest : (d n done : ℕ) (s : S) (k : ℕ → Then S B)
       → (read-members lists take-one (read-tree lists take-one d) n done s >>= λ r. k (count (r .0)) (nodes-all (r .0)) (r .1) (r .2)) ≡ forest d (suc n) done s (k (suc n))
   unfolding read-members forest nodes-all count
-  members-forest d zero done s k = over (read-tree lists take-one d done s) _ _ _ (λ r. simp append-nil)
-  members-forest d (suc n) done s k = over (read-tree lists take-one d done s) _ _ _ (λ r.
-      over (read-members lists take-one (read-tree lists take-one d) n (r .1) (r .2)) _ _ _ (λ q. refl) ∙ members-forest d n (r .1) (r .2) (λ c ns. k (suc c) (nodes (r .0) ++ ns)))
+  members-forest d zero done s k = assoc (read-tree lists take-one d done s) _ _ _ (λ r. simp append-nil)
+  members-forest d (suc n) done s k = assoc (read-tree lists take-one d done s) _ _ _ (λ r.
+      assoc (read-members lists take-one (read-tree lists take-one d) n (r .1) (r .2)) _ _ _ (λ q. refl) ∙ members-forest d n (r .1) (r .2) (λ c ns. k (suc c) (nodes (r .0) ++ ns)))
 
   operator-forest : (d n done : ℕ) (s : S) (of : Members → Tree) (by : ℕ → Node) → ((ts : Members) → nodes (of ts) ≡ by (count ts) ∷ nodes-all ts) → 1 ≤ n → (k : Then S B)
       → (operator lists take-one of (read-members lists take-one (read-tree lists take-one d) (n - 1) done s) >>= λ r. k (nodes (r .0)) (r .1) (r .2)) ≡ forest d n done s (λ ns. k (by n ∷ ns))
@@ -72,14 +68,14 @@ module _ {S B : Type 0} (lists : ℕ) (take-one : S → Outcome (Node × S)) whe
   operator-forest d zero done s of by e h k = absurd (omega arith)
   operator-forest d (suc n) done s of by e h k =
       let less : suc n - 1 ≡ n = omega arith in
-      rw less (over (read-members lists take-one (read-tree lists take-one d) n done s) _ _ (λ r. k (by (count (r .0)) ∷ nodes-all (r .0)) (r .1) (r .2)) (λ r. rw (e (r .0))) ∙ members-forest d n done s (λ c ns. k (by c ∷ ns)))
+      rw less (assoc (read-members lists take-one (read-tree lists take-one d) n done s) _ _ (λ r. k (by (count (r .0)) ∷ nodes-all (r .0)) (r .1) (r .2)) (λ r. rw (e (r .0))) ∙ members-forest d n done s (λ c ns. k (by c ∷ ns)))
 
   -- what stands below a node is its member nodes
   below-forest : (d : ℕ) (node : Node) (done : ℕ) (s : S) → Few node → named lists node ≡ true → (k : Then S B)
       → (read-below lists take-one (read-tree lists take-one d) node done s >>= λ r. k (nodes (r .0)) (r .1) (r .2)) ≡ forest d (members node) done s (λ ns. k (node ∷ ns))
   unfolding read-below nodes forest
   below-forest d (Leaf n) done s f h k = rw h
-  below-forest d Difference done s f h k = over (read-tree lists take-one d done s) _ _ _ (λ r. over (read-tree lists take-one d (r .1) (r .2)) _ _ _ (λ q. simp append-nil))
+  below-forest d Difference done s f h k = assoc (read-tree lists take-one d done s) _ _ _ (λ r. assoc (read-tree lists take-one d (r .1) (r .2)) _ _ _ (λ q. simp append-nil))
   below-forest d (Union n) done s f h k = operator-forest d n done s union Union (λ ts. refl) (f .0) k
   below-forest d (Intersection n) done s f h k = operator-forest d n done s intersection Intersection (λ ts. refl) (f .0) k
 

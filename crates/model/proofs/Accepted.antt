@@ -42,6 +42,11 @@ pub required : {B : Type 0} (n : ℕ) (t : Bool) (o : Outcome B) (b : B) → req
 required n true o b h = (refl, h)
 required n false o b h = never-accepted h
 
+-- two steps as one
+pub assoc : {A B C : Type 0} (o : Outcome A) (f : A → Outcome B) (g : B → Outcome C) (h : A → Outcome C) → ((a : A) → (f a >>= g) ≡ h a) → ((o >>= f) >>= g) ≡ (o >>= h)
+assoc (refused n) f g h e = refl
+assoc (accepted a) f g h e = e a
+
 -- ---- lists
 
 pub numbers-part : (numbers : List ℕ) (n start : ℕ) → Numbers numbers → Numbers (take n (drop start numbers))
