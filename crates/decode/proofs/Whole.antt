@@ -54,10 +54,10 @@ module _ (s : List ℕ) (numbers-room ends-room : ℕ) where
         turned (accepted r) = refl
 
 -- what is handed back
-pub refusal : (s numbers ends : List ℕ) {k : ℕ} → read-delivery (length numbers) (length ends) s ≡ refused k
+pub refuses : (s numbers ends : List ℕ) {k : ℕ} → read-delivery (length numbers) (length ends) s ≡ refused k
     → delivered (record { number = k; lists = 0; numbers = 0 }) numbers ends ≡ decode-delivery s numbers ends
 unfolding decode-delivery sent
-refusal s numbers ends e = rw e
+refuses s numbers ends e = rw e
 
 pub success : (s numbers ends : List ℕ) {ls : List (List ℕ)} → read-delivery (length numbers) (length ends) s ≡ accepted ls
     → delivered (record { number = 0; lists = length ls; numbers = length (all-numbers ls) }) (lay numbers 0 (all-numbers ls)) (lay ends 0 (ends-from 0 ls)) ≡ decode-delivery s numbers ends

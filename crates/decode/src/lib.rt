@@ -8,7 +8,7 @@ ghost use Rattle.model.specs.Delivery.{largest-gap, read-gaps, read-list, read-
 ghost use Rattle.model.specs.Calls.{delivered, decode-delivery};
 ghost use Rattle.fields.specs.Positions.{take-at};
 ghost use Rattle.decode.specs.Heads.{header, gap};
-ghost use Rattle.decode.specs.Answers.{head-says, read-says, only, total};
+ghost use Rattle.decode.specs.Answers.{head-says, read-says, refusal, only, total};
 ghost use Rattle.decode.specs.Stores.{Gaps-stored, List-stored, Lists-read, Lists-stored};
 use fields::Field;
 use model::Delivered;
@@ -319,31 +319,30 @@ fn number_of(read: Read) -> u32
     }
 }
 
+// What is handed back with a refusal: its number, and every other part 0.
+fn refused(number: u32) -> Delivered
+    ensures { λ r. ⌜ r ≡ refusal number ⌝ }
+{
+    Delivered {
+        number,
+        lists: 0,
+        numbers: 0,
+    }
+}
+
 // Reads a delivery into the lent rows of numbers and of ends.
 pub fn decode_delivery(bytes: &[u8], numbers: &mut [u32], ends: &mut [u32]) -> Delivered
     ensures { λ r. ⌜ delivered r (now (numbers .exit)) (now (ends .exit)) ≡ decode-delivery (now (bytes .entry)) (now (numbers .entry)) (now (ends .entry)) ⌝ }
 {
     let Field::Value { value: n, next } = fields::take_field(bytes, 0, 6) else {
-        return Delivered {
-            number: 1,
-            lists: 0,
-            numbers: 0,
-        };
+        return refused(1);
     };
     let many = wide(n);
     if !lists::count_holds(many) {
-        return Delivered {
-            number: 7,
-            lists: 0,
-            numbers: 0,
-        };
+        return refused(7);
     }
     if ends.len() < many {
-        return Delivered {
-            number: 6,
-            lists: 0,
-            numbers: 0,
-        };
+        return refused(6);
     }
     let walk = walk_lists(bytes, next, n, numbers.len());
     let Read::Value {
@@ -351,23 +350,15 @@ pub fn decode_delivery(bytes: &[u8], numbers: &mut [u32], ends: &mut [u32]) -> D
         next: end,
     } = walk
     else {
-        return Delivered {
-            number: number_of(walk),
-            lists: 0,
-            numbers: 0,
-        };
+        return refused(number_of(walk));
     };
-    if fields::only_fill(bytes, end) {
-        store_lists(bytes, next, n, numbers, ends);
-        return Delivered {
-            number: 0,
-            lists: many,
-            numbers: wide(count),
-        };
+    if !fields::only_fill(bytes, end) {
+        return refused(5);
     }
+    store_lists(bytes, next, n, numbers, ends);
     Delivered {
-        number: 5,
-        lists: 0,
-        numbers: 0,
+        number: 0,
+        lists: many,
+        numbers: wide(count),
     }
 }

@@ -9,6 +9,7 @@ use native.Mathlib.Omega.{arith}
 use lib.ListN.{length, drop}
 use borrow.Author.Tests.{not-true, not-false}
 use Rattle.model.specs.Outcome.{Outcome, number-of, accepted, _>>=_, _>>_, require}
+use Rattle.model.specs.declared.Delivered.{Delivered}
 use Rattle.model.specs.Lists.{count-holds}
 use Rattle.model.specs.Fields.{bits, only-fill}
 use Rattle.model.specs.Sets.{all-numbers}
@@ -18,12 +19,16 @@ use Rattle.lists.proofs.Spans.{counts}
 use Rattle.fields.specs.Positions.{take-at, field-says}
 use Rattle.fields.proofs.Fields.{took}
 use Rattle.decode.specs.declared.Read.{Read}
-use Rattle.decode.specs.Answers.{read-says, total}
+use Rattle.decode.specs.Answers.{refusal, read-says, total}
 use Rattle.decode.proofs.Reading.{Kept, kept, lost}
 use Rattle.decode.proofs.Bounds.{All, lists-next}
-use Rattle.decode.proofs.Whole.{reads-no-number, reads-wrong-number, reads-too-many, reads-on, refusal, success}
+use Rattle.decode.proofs.Whole.{reads-no-number, reads-wrong-number, reads-too-many, reads-on, refuses, success}
 use Rattle.decode.proofs.decode_delivery.Statement.{statement}
 use Rattle.decode.proofs.decode_delivery.Tie as tie
+
+-- a refusal handed back
+handed : (numbers ends : List ℕ) {r : Delivered} {n : ℕ} → r ≡ refusal n → delivered r numbers ends ≡ delivered (refusal n) numbers ends
+handed numbers ends e = ap (λ (x : Delivered). delivered x numbers ends) e
 
 -- how many lists there are
 number-read : (c : tie.After-known-told) → take-at (c .before .before .before .before .before .before .before .args .bytes .now) 6 0 ≡ accepted (c .before .n .given .0 .0, c .before .n .given .0 .1 .0)
@@ -62,10 +67,15 @@ enum-known-n c = search needs
 enum-told : tie.Need-enum-told
 enum-told c = search needs
 
+refused-requires : tie.Need-refused-requires
+refused-requires c κs = search needs
+
 returns : tie.Need-returns
-returns c =
+returns d =
+    let c = d .before in
     let args = c .before .before .before .before .before .before .args in
-    refusal (args .bytes .now) (args .numbers .now) (args .ends .now) (reads-no-number (args .bytes .now) _ _ (sym (c .before .before .take-field .ensures) ∙ ap field-says (c .enum-told .given .1)))
+    handed (args .numbers .now) (args .ends .now) (d .refused .ensures)
+    ∙ refuses (args .bytes .now) (args .numbers .now) (args .ends .now) (reads-no-number (args .bytes .now) _ _ (sym (c .before .before .take-field .ensures) ∙ ap field-says (c .enum-told .given .1)))
 
 wide-requires : tie.Need-wide-requires
 wide-requires c κs = search needs
@@ -73,16 +83,26 @@ wide-requires c κs = search needs
 count-holds-requires : tie.Need-count-holds-requires
 count-holds-requires c κs = search needs
 
+refused-requires-2 : tie.Need-refused-requires-2
+refused-requires-2 c κs = search needs
+
 returns-2 : tie.Need-returns-2
-returns-2 c =
+returns-2 d =
+    let c = d .before in
     let args = c .before .before .before .before .before .before .before .before .before .before .args in
-    refusal (args .bytes .now) (args .numbers .now) (args .ends .now)
+    handed (args .numbers .now) (args .ends .now) (d .refused2 .ensures)
+    ∙ refuses (args .bytes .now) (args .numbers .now) (args .ends .now)
     (reads-wrong-number (args .bytes .now) _ _ (number-read (c .before .before .before)) (ap count-holds (sym (c .before .before .wide .ensures)) ∙ sym (c .before .count-holds .ensures) ∙ not-true _ (c .if1 .taken)))
 
+refused-requires-3 : tie.Need-refused-requires-3
+refused-requires-3 c κs = search needs
+
 returns-3 : tie.Need-returns-3
-returns-3 c =
+returns-3 d =
+    let c = d .before in
     let args = c .before .before .before .before .before .before .before .before .before .before .before .args in
-    refusal (args .bytes .now) (args .numbers .now) (args .ends .now) (reads-too-many (args .bytes .now) _ _ (number-read (c .before .before .before .before)) (holds (c .before)) (omega (arith, c .before .before .before .wide .ensures)))
+    handed (args .numbers .now) (args .ends .now) (d .refused3 .ensures)
+    ∙ refuses (args .bytes .now) (args .numbers .now) (args .ends .now) (reads-too-many (args .bytes .now) _ _ (number-read (c .before .before .before .before)) (holds (c .before)) (omega (arith, c .before .before .before .wide .ensures)))
 
 walk-lists-requires : tie.Need-walk-lists-requires
 walk-lists-requires c κs = (counts _ (holds (c .before)) .1, omega (arith, six (c .before .before .before .before) .0))
@@ -96,17 +116,34 @@ enum-told-2 c = search needs
 number-of-requires : tie.Need-number-of-requires
 number-of-requires c κs = search needs
 
+refused-requires-4 : tie.Need-refused-requires-4
+refused-requires-4 c κs = search needs
+
 returns-4 : tie.Need-returns-4
 unfolding number-of
-returns-4 c =
+returns-4 d =
+    let c = d .before in
     let w = c .before .before .before in
     let args = w .before .before .before .before .before .before .before .before .before .before .before .before .args in
     let told = c .before .enum-told2 .given .1 in
-    ap (λ (n : ℕ). delivered (record { number = n; lists = 0; numbers = 0 }) (args .numbers .now) (args .ends .now)) (c .number-of .ensures ∙ ap (λ (r : Read). number-of (read-says r)) told)
-    ∙ refusal (args .bytes .now) (args .numbers .now) (args .ends .now) (on (w .before) (lost _ _ _ (sym (w .walk-lists .ensures) ∙ ap read-says told)))
+    handed (args .numbers .now) (args .ends .now) (d .refused4 .ensures)
+    ∙ ap (λ (n : ℕ). delivered (record { number = n; lists = 0; numbers = 0 }) (args .numbers .now) (args .ends .now)) (c .number-of .ensures ∙ ap (λ (r : Read). number-of (read-says r)) told)
+    ∙ refuses (args .bytes .now) (args .numbers .now) (args .ends .now) (on (w .before) (lost _ _ _ (sym (w .walk-lists .ensures) ∙ ap read-says told)))
 
 only-fill-requires : tie.Need-only-fill-requires
 only-fill-requires c κs = let w = walked-next c in (w .inside, omega (arith, w .near, six (c .before .before .before .before .before .before .before .before)))
+
+refused-requires-5 : tie.Need-refused-requires-5
+refused-requires-5 c κs = search needs
+
+returns-5 : tie.Need-returns-5
+returns-5 d =
+    let c = d .before in
+    let told2 = c .before .before in
+    let args = told2 .before .before .before .before .before .before .before .before .before .before .before .before .before .before .before .args in
+    let fill : only-fill (drop (told2 .before .walk .given .0 .1 .0) (bits (args .bytes .now))) ≡ false = sym (c .before .only-fill .ensures) ∙ not-true _ (c .if3 .taken) in
+    handed (args .numbers .now) (args .ends .now) (d .refused5 .ensures)
+    ∙ refuses (args .bytes .now) (args .numbers .now) (args .ends .now) (on (told2 .before .before .before .before) (walked told2 .read) ∙ rw fill)
 
 store-lists-requires : tie.Need-store-lists-requires
 store-lists-requires c κs =
@@ -128,27 +165,20 @@ same-length c = search needs
 same-length-2 : tie.Need-same-length-2
 same-length-2 c = search needs
 
-returns-5 : tie.Need-returns-5
+returns-6 : tie.Need-returns-6
 unfolding total
-returns-5 c =
+returns-6 c =
     let st = c .before .before .before .before .before in
     let told2 = st .before .before .before .before .before in
     let args = told2 .before .before .before .before .before .before .before .before .before .before .before .before .before .before .before .args in
     let w = walked told2 in
     let rows = st .store-lists .ensures (w .got) (told2 .before .walk .given .0 .1 .0) (w .read) in
-    let fill : only-fill (drop (told2 .before .walk .given .0 .1 .0) (bits (args .bytes .now))) ≡ true = sym (st .before .before .before .before .only-fill .ensures) ∙ st .before .before .before .if3 .taken in
+    let fill : only-fill (drop (told2 .before .walk .given .0 .1 .0) (bits (args .bytes .now))) ≡ true = sym (st .before .before .before .before .only-fill .ensures) ∙ not-false _ (st .before .before .before .if3 .left) in
     let lists : told2 .before .before .before .before .before .before .before .wide .result ≡ length (w .got) = told2 .before .before .before .before .before .before .before .wide .ensures ∙ sym (walked-next told2 .many) in
     let numbers : c .wide2 .result ≡ length (all-numbers (w .got)) = c .wide2 .ensures ∙ sym (w .is) in
     ap₂ (λ (a b : ℕ). delivered (record { number = 0; lists = a; numbers = b }) (st .store-lists .last .1 .1 .1 .0) (st .store-lists .last .1 .1 .1 .1 .0)) lists numbers
     ∙ ap₂ (λ (a b : List ℕ). delivered (record { number = 0; lists = length (w .got); numbers = length (all-numbers (w .got)) }) a b) (rows .0) (rows .1)
     ∙ success (args .bytes .now) (args .numbers .now) (args .ends .now) (on (told2 .before .before .before .before) (w .read) ∙ rw fill)
-
-returns-6 : tie.Need-returns-6
-returns-6 c =
-    let told2 = c .before .before in
-    let args = told2 .before .before .before .before .before .before .before .before .before .before .before .before .before .before .before .args in
-    let fill : only-fill (drop (told2 .before .walk .given .0 .1 .0) (bits (args .bytes .now))) ≡ false = sym (c .before .only-fill .ensures) ∙ c .if3 .left in
-    refusal (args .bytes .now) (args .numbers .now) (args .ends .now) (on (told2 .before .before .before .before) (walked told2 .read) ∙ rw fill)
 
 pub decode-delivery-spec : {M : Type 1} → statement M
 decode-delivery-spec =
@@ -157,20 +187,25 @@ decode-delivery-spec =
     take-field-requires
     enum-known-n
     enum-told
+    refused-requires
     returns
     wide-requires
     count-holds-requires
+    refused-requires-2
     returns-2
+    refused-requires-3
     returns-3
     walk-lists-requires
     enum-known-walk
     enum-told-2
     number-of-requires
+    refused-requires-4
     returns-4
     only-fill-requires
+    refused-requires-5
+    returns-5
     store-lists-requires
     wide-requires-2
     same-length
     same-length-2
-    returns-5
     returns-6)

@@ -9,6 +9,7 @@ use native.Mathlib.Omega.{arith}
 use lib.Pow.{pow-pos}
 use lib.ListN.{length, replicate}
 use borrow.Author.Tests.{not-true, not-false}
+use Rattle.model.specs.declared.Written.{Written}
 use Rattle.model.specs.Lists.{all-ascending, lists-from, count-holds, ends-hold}
 use Rattle.model.specs.Fields.{field}
 use Rattle.model.specs.Delivery.{lists-bits, delivery}
@@ -18,10 +19,14 @@ use Rattle.lists.proofs.Spans.{counts}
 use Rattle.fields.specs.Rows.{lay}
 use Rattle.fields.specs.Positions.{put-bits}
 use Rattle.encode.specs.declared.Measure.{Measure}
-use Rattle.encode.specs.Measures.{gap-width, measured-by, measured}
+use Rattle.encode.specs.Measures.{refusal, gap-width, measured-by, measured}
 use Rattle.encode.proofs.Whole.{lists-small, refuses-7, refuses-10, refuses-11, refuses-6, writes, delivery-length, delivered}
 use Rattle.encode.proofs.encode_delivery.Statement.{statement}
 use Rattle.encode.proofs.encode_delivery.Tie as tie
+
+-- a refusal handed back
+handed : (lent : List ℕ) {r : Written} {n : ℕ} → r ≡ refusal n → written r lent ≡ written (refusal n) lent
+handed lent e = ap (λ (x : Written). written x lent) e
 
 -- 7 and 10 do not apply
 seven : (c : tie.Else1) → count-holds (length (c .before .before .before .before .before .args .ends .now)) ≡ true
@@ -72,38 +77,58 @@ next-is c = omega (arith, c .put-lists .ensures .0, found (c .before .before .be
 count-holds-requires : tie.Need-count-holds-requires
 count-holds-requires c κs = search needs
 
+refused-requires : tie.Need-refused-requires
+refused-requires c κs = search needs
+
 returns : tie.Need-returns
-returns c =
+returns d =
+    let c = d .before in
     let args = c .before .before .before .before .before .args in
-    refuses-7 (args .numbers .now) (args .ends .now) (args .bytes .now) (sym (c .before .count-holds .ensures) ∙ not-true _ (c .if1 .taken))
+    handed (args .bytes .now) (d .refused .ensures)
+    ∙ refuses-7 (args .numbers .now) (args .ends .now) (args .bytes .now) (sym (c .before .count-holds .ensures) ∙ not-true _ (c .if1 .taken))
 
 ends-hold-requires : tie.Need-ends-hold-requires
 ends-hold-requires c κs = search needs
 
+refused-requires-2 : tie.Need-refused-requires-2
+refused-requires-2 c κs = search needs
+
 returns-2 : tie.Need-returns-2
-returns-2 c =
+returns-2 d =
+    let c = d .before in
     let args = c .before .before .before .before .before .before .before .args in
-    refuses-10 (args .numbers .now) (args .ends .now) (args .bytes .now) (seven (c .before .before)) (sym (c .before .ends-hold .ensures) ∙ not-true _ (c .if2 .taken))
+    handed (args .bytes .now) (d .refused2 .ensures)
+    ∙ refuses-10 (args .numbers .now) (args .ends .now) (args .bytes .now) (seven (c .before .before)) (sym (c .before .ends-hold .ensures) ∙ not-true _ (c .if2 .taken))
 
 survey-requires : tie.Need-survey-requires
 survey-requires c κs = (ten c, counts _ (seven (c .before .before)) .1)
 
+refused-requires-3 : tie.Need-refused-requires-3
+refused-requires-3 c κs = search needs
+
 returns-3 : tie.Need-returns-3
-returns-3 c =
+returns-3 d =
+    let c = d .before in
     let s = c .before .before in
     let args = s .before .before .before .before .before .before .before .before .args in
     let f = falls (lists-from (args .numbers .now) 0 (args .ends .now)) (s .survey .result) (s .survey .ensures) (c .if3 .taken) in
-    ap (λ (n : ℕ). written (record { number = n; count = 0 }) (args .bytes .now)) (f .1)
+    handed (args .bytes .now) (d .refused3 .ensures)
+    ∙ ap (λ (n : ℕ). written (record { number = n; count = 0 }) (args .bytes .now)) (f .1)
     ∙ refuses-11 (args .numbers .now) (args .ends .now) (args .bytes .now) (seven (s .before .before .before)) (ten (s .before)) (f .0)
 
 add-count : tie.Need-add-count
 add-count c = omega (arith, few (c .before))
 
+refused-requires-4 : tie.Need-refused-requires-4
+refused-requires-4 c κs = search needs
+
 returns-4 : tie.Need-returns-4
-returns-4 c =
+returns-4 d =
+    let c = d .before in
     let e = c .before .before in
     let args = e .before .before .before .before .before .before .before .before .before .before .args in
-    refuses-6 (args .numbers .now) (args .ends .now) (args .bytes .now) (seven (e .before .before .before .before .before)) (ten (e .before .before .before)) (found e .up) (omega (arith, count-is e))
+    handed (args .bytes .now) (d .refused4 .ensures)
+    ∙ refuses-6 (args .numbers .now) (args .ends .now) (args .bytes .now) (seven (e .before .before .before .before .before)) (ten (e .before .before .before)) (found e .up) (omega (arith, count-is e))
 
 narrow-requires : tie.Need-narrow-requires
 narrow-requires c κs = omega (arith, counts _ (seven (c .before .before .before .before .before .before .before .before .before)) .1)
@@ -155,12 +180,16 @@ encode-delivery-spec =
     tie.close
     (tie.spec
     count-holds-requires
+    refused-requires
     returns
     ends-hold-requires
+    refused-requires-2
     returns-2
     survey-requires
+    refused-requires-3
     returns-3
     add-count
+    refused-requires-4
     returns-4
     narrow-requires
     put-field-requires
