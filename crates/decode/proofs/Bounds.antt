@@ -22,7 +22,6 @@ pub record Next (s : List ℕ) (w last p x q : ℕ) : Type 0 where
   pub moved : q ≡ p + w
   pub above : last < x
   pub small : x < top
-  pub inside : 1 ≤ w → q ≤ 8 * length s
 
 pub gap-next : (s : List ℕ) (w last p x q : ℕ) → gap (take-at s) w last p ≡ accepted (x, q) → Next s w last p x q
 unfolding gap
@@ -34,40 +33,38 @@ gap-next s w last p x q e =
     let ex : last + a .got .0 + 1 ≡ x = ap (λ (r : ℕ × ℕ). r .0) same in
     let eq : a .got .1 ≡ q = ap (λ (r : ℕ × ℕ). r .1) same in
     let fits = ltb-true (last + a .got .0 + 1) top (b .0) in
-    record { moved = omega (arith, t .next); above = omega arith; small = omega arith; inside = λ h. omega (arith, t .next, t .inside) }
+    record { moved = omega (arith, t .next); above = omega arith; small = omega arith }
 
 -- a header of n numbers, and the position behind it, at most k bits on
 pub record Headed (s : List ℕ) (n k p : ℕ) (r : Header × ℕ) : Type 0 where
   pub near : r .1 ≤ p + k
   pub inside : r .1 ≤ 8 * length s
   pub counted : r .0 .count ≡ n
-  pub small : r .0 .first < top
   pub wide : 2 ≤ n → (1 ≤ r .0 .width) × (r .0 .width ≤ 32)
 
-width-next : (s : List ℕ) (n first p : ℕ) (r : Header × ℕ) → header-width (take-at s) n first p ≡ accepted r → p ≤ 8 * length s → first < top → Headed s (suc n) 5 p r
+width-next : (s : List ℕ) (n first p : ℕ) (r : Header × ℕ) → header-width (take-at s) n first p ≡ accepted r → p ≤ 8 * length s → Headed s (suc n) 5 p r
 unfolding header-width
-width-next s zero first p r e h f =
-    subst (Headed s 1 5 p) (accepted-same e) (record { near = omega arith; inside = h; counted = refl; small = f; wide = λ l. absurd (omega arith) })
-width-next s (suc n) first p r e h f =
+width-next s zero first p r e h =
+    subst (Headed s 1 5 p) (accepted-same e) (record { near = omega arith; inside = h; counted = refl; wide = λ l. absurd (omega arith) })
+width-next s (suc n) first p r e h =
     let a = bound (take-at s 5 p) _ r e in
     let t = took s 5 p (a .got) (a .first) in
     subst (Headed s (suc (suc n)) 5 p) (accepted-same (a .rest)) (record {
       near = omega (arith, t .next);
       inside = omega (arith, t .next, t .inside);
       counted = refl;
-      small = f;
       wide = λ l. (omega arith, omega (arith, t .small));
     })
 
 first-next : (s : List ℕ) (n p : ℕ) (r : Header × ℕ) → header-first (take-at s) n p ≡ accepted r → p ≤ 8 * length s → Headed s n 37 p r
 unfolding header-first
 first-next s zero p r e h =
-    subst (Headed s 0 37 p) (accepted-same e) (record { near = omega arith; inside = h; counted = refl; small = omega arith; wide = λ l. absurd (omega arith) })
+    subst (Headed s 0 37 p) (accepted-same e) (record { near = omega arith; inside = h; counted = refl; wide = λ l. absurd (omega arith) })
 first-next s (suc n) p r e h =
     let a = bound (take-at s 32 p) _ r e in
     let t = took s 32 p (a .got) (a .first) in
-    let b = width-next s n (a .got .0) (a .got .1) r (a .rest) (omega (arith, t .next, t .inside)) (t .small) in
-    record { near = omega (arith, t .next, b .near); inside = b .inside; counted = b .counted; small = b .small; wide = b .wide }
+    let b = width-next s n (a .got .0) (a .got .1) r (a .rest) (omega (arith, t .next, t .inside)) in
+    record { near = omega (arith, t .next, b .near); inside = b .inside; counted = b .counted; wide = b .wide }
 
 pub header-next : (s : List ℕ) (room p : ℕ) (r : Header × ℕ) → header (take-at s) room p ≡ accepted r → Headed s (r .0 .count) 53 p r × (r .0 .count ≤ room) × (r .0 .count < 65536)
 unfolding header
@@ -77,7 +74,7 @@ header-next s room p r e =
     let b = required 6 (leb (a .got .0) room) _ r (a .rest) in
     let f = first-next s (a .got .0) (a .got .1) r (b .1) (omega (arith, t .next, t .inside)) in
     let fits = leb-true (a .got .0) room (b .0) in
-    (record { near = omega (arith, t .next, f .near); inside = f .inside; counted = refl; small = f .small; wide = λ l. f .wide (rw (← f .counted) l) }, omega (arith, f .counted), omega (arith, f .counted, t .small))
+    (record { near = omega (arith, t .next, f .near); inside = f .inside; counted = refl; wide = λ l. f .wide (rw (← f .counted) l) }, omega (arith, f .counted), omega (arith, f .counted, t .small))
 
 -- n numbers, and the position behind them
 pub record Gone (s : List ℕ) (w n last p : ℕ) (r : List ℕ × ℕ) : Type 0 where

@@ -5,7 +5,6 @@ use Prim.Native.Nat.{ℕ}
 use lib.ListN.{length}
 use Rattle.model.specs.Outcome.{Outcome, refused, accepted}
 use Rattle.model.specs.Sets.{all-numbers}
-use Rattle.model.specs.declared.Delivered.{Delivered}
 use Rattle.decode.specs.declared.Head.{Head}
 use Rattle.decode.specs.declared.Head.the-variants.{Header as HeaderOf, Refused as NoHeader}
 use Rattle.decode.specs.declared.Read.{Read}
@@ -30,7 +29,3 @@ only about (accepted r) = accepted (about (r .0), r .1)
 -- how many numbers lists have together
 unfoldable pub total : List (List ℕ) → ℕ
 total ls = length (all-numbers ls)
-
--- "A refusal hands back its number, every other part of the result 0"
-abbrev pub refusal : ℕ → Delivered
-refusal n = record { number = n; lists = 0; numbers = 0 }

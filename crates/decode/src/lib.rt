@@ -1,4 +1,4 @@
-// A delivery, read. It is walked through once without writing, so that a refusal, however late, leaves the lent rows as they
+// A delivery, read. It is walked through once without writing, so that a however late, leaves the lent rows as they
 // are, and once more to write what is then known to read. Both walks are held to the one definition of reading.
 ghost use mathlib.Core.Path.{_≡_};
 ghost use Prim.Native.Nat.{_+_, _^_, _≤_, _<_, max};
@@ -8,7 +8,7 @@ ghost use Rattle.model.specs.Delivery.{largest-gap, read-gaps, read-list, read-
 ghost use Rattle.model.specs.Calls.{delivered, decode-delivery};
 ghost use Rattle.fields.specs.Positions.{take-at};
 ghost use Rattle.decode.specs.Heads.{header, gap};
-ghost use Rattle.decode.specs.Answers.{head-says, read-says, refusal, only, total};
+ghost use Rattle.decode.specs.Answers.{head-says, read-says, only, total};
 ghost use Rattle.decode.specs.Stores.{Gaps-stored, List-stored, Lists-read, Lists-stored};
 use fields::Field;
 use model::Delivered;
@@ -145,7 +145,7 @@ fn walk_gaps(s: &[u8], at: usize, w: u32, n: u32, last: u32) -> Read
     }
 }
 
-// The number of a header's refusal, 0 where there is none.
+// The number of a header's 0 where there is none.
 fn head_number(head: Head) -> u32
     ensures { λ r. ⌜ r ≡ number-of (head-says head) ⌝ }
 {
@@ -309,7 +309,7 @@ fn store_lists(s: &[u8], at: usize, n: u32, numbers: &mut [u32], ends: &mut [u32
     }
 }
 
-// The number of a refusal, 0 where there is none.
+// The number of a 0 where there is none.
 fn number_of(read: Read) -> u32
     ensures { λ r. ⌜ r ≡ number-of (read-says read) ⌝ }
 {
@@ -319,30 +319,19 @@ fn number_of(read: Read) -> u32
     }
 }
 
-// What is handed back with a refusal: its number, and every other part 0.
-fn refused(number: u32) -> Delivered
-    ensures { λ r. ⌜ r ≡ refusal number ⌝ }
-{
-    Delivered {
-        number,
-        lists: 0,
-        numbers: 0,
-    }
-}
-
 // Reads a delivery into the lent rows of numbers and of ends.
 pub fn decode_delivery(bytes: &[u8], numbers: &mut [u32], ends: &mut [u32]) -> Delivered
     ensures { λ r. ⌜ delivered r (now (numbers .exit)) (now (ends .exit)) ≡ decode-delivery (now (bytes .entry)) (now (numbers .entry)) (now (ends .entry)) ⌝ }
 {
     let Field::Value { value: n, next } = fields::take_field(bytes, 0, 6) else {
-        return refused(1);
+        return Delivered::refused(1);
     };
     let many = wide(n);
     if !lists::count_holds(many) {
-        return refused(7);
+        return Delivered::refused(7);
     }
     if ends.len() < many {
-        return refused(6);
+        return Delivered::refused(6);
     }
     let walk = walk_lists(bytes, next, n, numbers.len());
     let Read::Value {
@@ -350,10 +339,10 @@ pub fn decode_delivery(bytes: &[u8], numbers: &mut [u32], ends: &mut [u32]) -> D
         next: end,
     } = walk
     else {
-        return refused(number_of(walk));
+        return Delivered::refused(number_of(walk));
     };
     if !fields::only_fill(bytes, end) {
-        return refused(5);
+        return Delivered::refused(5);
     }
     store_lists(bytes, next, n, numbers, ends);
     Delivered {

@@ -7,7 +7,6 @@ use Rattle.model.specs.Lists.{all-ascending}
 use Rattle.model.specs.Delivery.{width, lists-bits}
 use Rattle.lists.specs.Rise.{largest}
 use Rattle.fields.specs.Rows.{lay}
-use Rattle.model.specs.declared.Written.{Written}
 use Rattle.encode.specs.declared.Measure.{Measure}
 
 -- the width of a list's gaps; a list of fewer than two numbers has none, and its width is not written
@@ -27,7 +26,3 @@ measured-by false ls = record { number = 11; bits = 0; widths = replicate 32 0 }
 
 unfoldable pub measured : List (List ℕ) → Measure
 measured ls = measured-by (all-ascending ls) ls
-
--- "A refusal hands back its number, every other part of the result 0"
-abbrev pub refusal : ℕ → Written
-refusal n = record { number = n; count = 0 }

@@ -9,7 +9,7 @@ ghost use Rattle.model.specs.Delivery.{gap-bits, list-bits, lists-bits};
 ghost use Rattle.model.specs.Calls.{written, encode-delivery};
 ghost use Rattle.fields.specs.Positions.{put-bits};
 ghost use Rattle.encode.specs.Fits.{Gaps-fit, List-fits, Lists-fit};
-ghost use Rattle.encode.specs.Measures.{refusal, list-size, measured};
+ghost use Rattle.encode.specs.Measures.{list-size, measured};
 use lists::Rise;
 use model::Written;
 
@@ -148,31 +148,24 @@ fn put_lists(s: &mut [u8], numbers: &[u32], ends: &[u32], widths: [u8; 32]) -> u
     next
 }
 
-// What is handed back with a refusal: its number, and nothing written.
-fn refused(number: u32) -> Written
-    ensures { λ r. ⌜ r ≡ refusal number ⌝ }
-{
-    Written { number, count: 0 }
-}
-
 // Writes a delivery of the lists into the lent bytes.
 pub fn encode_delivery(numbers: &[u32], ends: &[u32], bytes: &mut [u8]) -> Written
     ensures { λ r. ⌜ written r (now (bytes .exit)) ≡ encode-delivery (now (numbers .entry)) (now (ends .entry)) (now (bytes .entry)) ⌝ }
 {
     if !lists::count_holds(ends.len()) {
-        return refused(7);
+        return Written::refused(7);
     }
     if !lists::ends_hold(numbers.len(), ends) {
-        return refused(10);
+        return Written::refused(10);
     }
     let m = survey(numbers, ends);
     if m.number != 0 {
-        return refused(m.number);
+        return Written::refused(m.number);
     }
     // six bits of their number ahead of the lists, and up to a whole byte
     let count = (m.bits + 13) >> 3;
     if bytes.len() < count {
-        return refused(6);
+        return Written::refused(6);
     }
     let widths = m.widths;
     fields::put_field(bytes, 0, 6, narrow(ends.len()));

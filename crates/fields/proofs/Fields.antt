@@ -138,9 +138,6 @@ module _ (s : List ℕ) (at w e n : ℕ) (all : at % 8 + w + e ≡ 8 * n) (there
       let l : length (before s at) ≡ at % 8 = omega (arith, length-take (at % 8) (drop (8 * (at / 8)) (bits s)), length-drop (8 * (at / 8)) (bits s), bits-length s) in
       subst (λ (k : ℕ). value (before s at) < 2 ^ k) l (value-lt (before s at))
 
-  pub behind-lt : value (behind s at w e) < 2 ^ e
-  behind-lt = subst (λ (k : ℕ). value (behind s at w e) < 2 ^ k) behind-length (value-lt (behind s at w e))
-
 -- ---- zero bits
 
 pub zeros-value : (bs : List Bool) → zeros bs ≡ eqb (value bs) 0

@@ -60,10 +60,6 @@ pub bits-put : (s : List ℕ) (p : ℕ) (bs : List Bool) → p + length bs ≤ 8
 unfolding put-bits
 bits-put s p bs h = bits-bytes (lay (bits s) p bs) (length s) (lay-length (bits s) p bs (rw bits-length h) ∙ bits-length s)
 
-pub put-length : (s : List ℕ) (p : ℕ) (bs : List Bool) → p + length bs ≤ 8 * length s → length (put-bits s p bs) ≡ length s
-put-length s p bs h =
-    omega (arith, bits-length (put-bits s p bs), ap length (bits-put s p bs h), lay-length (bits s) p bs (rw bits-length h), bits-length s)
-
 pub put-append : (s : List ℕ) (p : ℕ) (xs ys : List Bool) → p + length xs ≤ 8 * length s → put-bits (put-bits s p xs) (p + length xs) ys ≡ put-bits s p (xs ++ ys)
 put-append s p xs ys h =
     put-is (put-bits s p xs) (p + length xs) ys

@@ -16,7 +16,7 @@ use Rattle.model.specs.Lists.{count-holds}
 use Rattle.model.specs.Expression.{Tree, size}
 use Rattle.model.specs.Fields.{Bytes, field, fill, bytes}
 use Rattle.model.specs.Forms.{nodes, row, packed, read-row, read-packed}
-use Rattle.model.specs.Calls.{written, unpack-expression, pack-expression}
+use Rattle.model.specs.Calls.{written-refused, written, unpack-expression, pack-expression}
 use Rattle.model.specs.Demands.{Expression}
 use Rattle.model.proofs.Order.{and-true}
 use Rattle.model.proofs.Shape.{row-long}
@@ -24,7 +24,7 @@ use Rattle.expression.specs.declared.Expression.{Expression as Read}
 use Rattle.expression.specs.Reading.{expression-of}
 use Rattle.fields.specs.Positions.{put-bits}
 use Rattle.fields.proofs.Puts.{put-append, put-whole, bytes-length}
-use Rattle.forms.specs.Packing.{refusal, row-bits}
+use Rattle.forms.specs.Packing.{row-bits}
 use Rattle.forms.proofs.Nodes.{tree-packed}
 
 -- what is written of what was read
@@ -65,12 +65,12 @@ abbrev pub sends : (Tree → List ℕ) → (Tree → ℕ) → List ℕ → Outco
 sends form long lent o = sent 1 (lent ∷ []) (o >>= λ t. (require 6 (leb (long t) (length lent)) >> accepted (record { parts = long t ∷ []; written = form t ∷ [] })))
 
 module _ (form : Tree → List ℕ) (long : Tree → ℕ) (is-long : (t : Tree) → length (form t) ≡ long t) (lent : List ℕ) where
-  pub sends-refusal : (o : Outcome Tree) → (number-of o ≡ 0 → ⊥) → written (refusal (number-of o)) lent ≡ sends form long lent o
+  pub sends-refusal : (o : Outcome Tree) → (number-of o ≡ 0 → ⊥) → written (written-refused (number-of o)) lent ≡ sends form long lent o
   unfolding number-of sent
   sends-refusal (refused n) h = refl
   sends-refusal (accepted t) h = absurd (h refl)
 
-  pub sends-short : (o : Outcome Tree) → length lent < length (of-read form o) → written (refusal 6) lent ≡ sends form long lent o
+  pub sends-short : (o : Outcome Tree) → length lent < length (of-read form o) → written (written-refused 6) lent ≡ sends form long lent o
   unfolding of-read sent
   sends-short (refused n) h = absurd (omega arith)
   sends-short (accepted t) h = rw (lt-leb (long t) (length lent) (omega (arith, is-long t)))
@@ -84,7 +84,7 @@ module _ (form : Tree → List ℕ) (long : Tree → ℕ) (is-long : (t : Tree) 
 -- ---- the two calls: 7 first, then the reading
 
 module _ (s : List ℕ) (lists : ℕ) (lent : List ℕ) where
-  pub unpack-wrong : count-holds lists ≡ false → written (refusal 7) lent ≡ unpack-expression s lists lent
+  pub unpack-wrong : count-holds lists ≡ false → written (written-refused 7) lent ≡ unpack-expression s lists lent
   unfolding unpack-expression sent
   unpack-wrong h = rw h
 
@@ -92,7 +92,7 @@ module _ (s : List ℕ) (lists : ℕ) (lent : List ℕ) where
   unfolding unpack-expression
   unpack-on h = rw h
 
-  pub pack-wrong : count-holds lists ≡ false → written (refusal 7) lent ≡ pack-expression s lists lent
+  pub pack-wrong : count-holds lists ≡ false → written (written-refused 7) lent ≡ pack-expression s lists lent
   unfolding pack-expression sent
   pack-wrong h = rw h
 

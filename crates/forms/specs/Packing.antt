@@ -4,15 +4,10 @@ use mathlib.Core.List.{List, [], _∷_, _++_}
 use Prim.Native.Nat.{ℕ}
 use lib.ListN.{length}
 use Rattle.model.specs.declared.Node.{Node}
-use Rattle.model.specs.declared.Written.{Written}
 use Rattle.model.specs.Outcome.{Outcome, refused, accepted}
 use Rattle.model.specs.Fields.{value}
 use Rattle.model.specs.Forms.{packed-node, node-of}
 use Rattle.forms.specs.declared.Bits.{Bits}
-
--- "A refusal hands back its number, every other part of the result 0"
-abbrev pub refusal : ℕ → Written
-refusal n = record { number = n; count = 0 }
 
 -- the packed bits of what a byte says; an unknown byte has none
 unfoldable pub said-bits : Outcome Node → List Bool

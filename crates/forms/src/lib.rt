@@ -6,7 +6,7 @@ ghost use lib.ListN.{length};
 ghost use Rattle.model.specs.Calls.{written, unpack-expression, pack-expression};
 ghost use Rattle.fields.specs.Rows.{lay};
 ghost use Rattle.fields.specs.Positions.{put-bits};
-ghost use Rattle.forms.specs.Packing.{refusal, bits-of, row-bits};
+ghost use Rattle.forms.specs.Packing.{bits-of, row-bits};
 use expression::Form;
 use model::Written;
 
@@ -14,13 +14,6 @@ use model::Written;
 struct Bits {
     width: usize,
     value: u32,
-}
-
-// What is handed back with a refusal: its number, and nothing written.
-fn refused(number: u32) -> Written
-    ensures { λ r. ⌜ r ≡ refusal number ⌝ }
-{
-    Written { number, count: 0 }
 }
 
 // Copies `from` to the start of `lent`.
@@ -90,16 +83,16 @@ pub fn unpack_expression(bytes: &[u8], lists: usize, row: &mut [u8]) -> Written
     ensures { λ r. ⌜ written r (now (row .exit)) ≡ unpack-expression (now (bytes .entry)) lists (now (row .entry)) ⌝ }
 {
     if !lists::count_holds(lists) {
-        return refused(7);
+        return Written::refused(7);
     }
     let read = expression::read_expression(Form::Packed, bytes, lists);
     if read.number != 0 {
-        return refused(read.number);
+        return Written::refused(read.number);
     }
     let nodes = read.nodes;
     let count = read.count;
     if row.len() < count {
-        return refused(6);
+        return Written::refused(6);
     }
     copy_out(row, &nodes[..count]);
     Written { number: 0, count }
@@ -110,18 +103,18 @@ pub fn pack_expression(row: &[u8], lists: usize, bytes: &mut [u8]) -> Written
     ensures { λ r. ⌜ written r (now (bytes .exit)) ≡ pack-expression (now (row .entry)) lists (now (bytes .entry)) ⌝ }
 {
     if !lists::count_holds(lists) {
-        return refused(7);
+        return Written::refused(7);
     }
     let read = expression::read_expression(Form::Row, row, lists);
     if read.number != 0 {
-        return refused(read.number);
+        return Written::refused(read.number);
     }
     let nodes = read.nodes;
     let count = read.count;
     let at = packed_bits(&nodes[..count]);
     let size = (at + 7) / 8;
     if bytes.len() < size {
-        return refused(6);
+        return Written::refused(6);
     }
     put_nodes(bytes, &nodes[..count]);
     fields::put_field(bytes, at, 8 * size - at, 0);

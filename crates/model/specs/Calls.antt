@@ -22,6 +22,13 @@ written r row = record { number = r .number; parts = r .count ∷ []; rows = row
 abbrev pub delivered : Delivered → List ℕ → List ℕ → Sent
 delivered r numbers ends = record { number = r .number; parts = r .lists ∷ r .numbers ∷ []; rows = numbers ∷ ends ∷ [] }
 
+-- "A refusal hands back its number, every other part of the result 0": as such a struct
+abbrev pub written-refused : ℕ → Written
+written-refused n = record { number = n; count = 0 }
+
+abbrev pub delivered-refused : ℕ → Delivered
+delivered-refused n = record { number = n; lists = 0; numbers = 0 }
+
 -- one end for each list, from lists that start at `start`
 unfoldable pub ends-from : ℕ → List (List ℕ) → List ℕ
 ends-from start [] = []

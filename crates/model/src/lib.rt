@@ -1,4 +1,6 @@
 // The types that the definitions and every other crate share. Their meaning is in specs/.
+ghost use mathlib.Core.Path.{_≡_};
+ghost use Rattle.model.specs.Calls.{written-refused, delivered-refused};
 
 // One node of an expression: a list by its number, a difference of two nodes, a union or an intersection of 1 to 8
 // (their number). Its member nodes follow it, each with all that is below it.
@@ -24,9 +26,31 @@ pub struct Written {
     pub count: usize,
 }
 
+impl Written {
+    // What is handed back with a refusal: its number, and every other part 0.
+    pub fn refused(number: u32) -> Self
+        ensures { λ r. ⌜ r ≡ written-refused number ⌝ }
+    {
+        Written { number, count: 0 }
+    }
+}
+
 // What reading a delivery hands back: the number of a refusal or 0, how many lists, and how many numbers in all of them.
 pub struct Delivered {
     pub number: u32,
     pub lists: usize,
     pub numbers: usize,
+}
+
+impl Delivered {
+    // The same, of what reading a delivery hands back.
+    pub fn refused(number: u32) -> Self
+        ensures { λ r. ⌜ r ≡ delivered-refused number ⌝ }
+    {
+        Delivered {
+            number,
+            lists: 0,
+            numbers: 0,
+        }
+    }
 }

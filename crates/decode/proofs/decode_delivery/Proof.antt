@@ -14,20 +14,20 @@ use Rattle.model.specs.Lists.{count-holds}
 use Rattle.model.specs.Fields.{bits, only-fill}
 use Rattle.model.specs.Sets.{all-numbers}
 use Rattle.model.specs.Delivery.{read-lists, read-delivery}
-use Rattle.model.specs.Calls.{delivered}
+use Rattle.model.specs.Calls.{delivered-refused, delivered}
 use Rattle.lists.proofs.Spans.{counts}
 use Rattle.fields.specs.Positions.{take-at, field-says}
 use Rattle.fields.proofs.Fields.{took}
 use Rattle.decode.specs.declared.Read.{Read}
-use Rattle.decode.specs.Answers.{refusal, read-says, total}
+use Rattle.decode.specs.Answers.{read-says, total}
 use Rattle.decode.proofs.Reading.{Kept, kept, lost}
 use Rattle.decode.proofs.Bounds.{All, lists-next}
 use Rattle.decode.proofs.Whole.{reads-no-number, reads-wrong-number, reads-too-many, reads-on, refuses, success}
 use Rattle.decode.proofs.decode_delivery.Statement.{statement}
 use Rattle.decode.proofs.decode_delivery.Tie as tie
 
--- a refusal handed back
-handed : (numbers ends : List ℕ) {r : Delivered} {n : ℕ} → r ≡ refusal n → delivered r numbers ends ≡ delivered (refusal n) numbers ends
+-- a delivered-refused handed back
+handed : (numbers ends : List ℕ) {r : Delivered} {n : ℕ} → r ≡ delivered-refused n → delivered r numbers ends ≡ delivered (delivered-refused n) numbers ends
 handed numbers ends e = ap (λ (x : Delivered). delivered x numbers ends) e
 
 -- how many lists there are

@@ -13,19 +13,19 @@ use Rattle.model.specs.declared.Written.{Written}
 use Rattle.model.specs.Lists.{all-ascending, lists-from, count-holds, ends-hold}
 use Rattle.model.specs.Fields.{field}
 use Rattle.model.specs.Delivery.{lists-bits, delivery}
-use Rattle.model.specs.Calls.{written}
+use Rattle.model.specs.Calls.{written-refused, written}
 use Rattle.model.proofs.Laid.{lists-length}
 use Rattle.lists.proofs.Spans.{counts}
 use Rattle.fields.specs.Rows.{lay}
 use Rattle.fields.specs.Positions.{put-bits}
 use Rattle.encode.specs.declared.Measure.{Measure}
-use Rattle.encode.specs.Measures.{refusal, gap-width, measured-by, measured}
+use Rattle.encode.specs.Measures.{gap-width, measured-by, measured}
 use Rattle.encode.proofs.Whole.{lists-small, refuses-7, refuses-10, refuses-11, refuses-6, writes, delivery-length, delivered}
 use Rattle.encode.proofs.encode_delivery.Statement.{statement}
 use Rattle.encode.proofs.encode_delivery.Tie as tie
 
--- a refusal handed back
-handed : (lent : List ℕ) {r : Written} {n : ℕ} → r ≡ refusal n → written r lent ≡ written (refusal n) lent
+-- a written-refused handed back
+handed : (lent : List ℕ) {r : Written} {n : ℕ} → r ≡ written-refused n → written r lent ≡ written (written-refused n) lent
 handed lent e = ap (λ (x : Written). written x lent) e
 
 -- 7 and 10 do not apply

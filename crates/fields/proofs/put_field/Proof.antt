@@ -1,7 +1,7 @@
 -- `fields::put_field` meets its contract: in the bytes that hold the field, the bits before it and behind it stay
 -- (`before-in`, `behind-in`), and storing those bytes is putting the field (`put-held`). Assumes nothing.
 use borrow.Author.Needs.{needs}
-use mathlib.Core.Path.{_≡_, ap, ap₂, _∙_, subst}
+use mathlib.Core.Path.{_≡_, ap, ap₂, _∙_}
 use mathlib.Core.List.{List}
 use Prim.Native.Nat.{ℕ, _+_, _-_, _*_, _/_, _%_, _^_, _<_}
 use native.Mathlib.Nat.{mod-lt, lt-of-lt-of-le}

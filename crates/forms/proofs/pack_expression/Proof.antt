@@ -17,11 +17,11 @@ use Rattle.model.specs.Lists.{count-holds}
 use Rattle.model.specs.Expression.{Tree}
 use Rattle.model.specs.Fields.{field, bytes}
 use Rattle.model.specs.Forms.{row, packed, read-row}
-use Rattle.model.specs.Calls.{written}
+use Rattle.model.specs.Calls.{written-refused, written}
 use Rattle.model.proofs.Accepted.{row-reads}
 use Rattle.fields.specs.Positions.{put-bits}
 use Rattle.fields.proofs.Puts.{bytes-length}
-use Rattle.forms.specs.Packing.{refusal, row-bits}
+use Rattle.forms.specs.Packing.{row-bits}
 use Rattle.forms.proofs.Nodes.{row-few}
 use Rattle.forms.proofs.Whole.{of-read, Handed, handed, sends-refusal, sends-short, sends-all, pack-wrong, pack-on, packed-of, put-filled}
 use Rattle.forms.proofs.pack_expression.Statement.{statement}
@@ -81,7 +81,7 @@ returns-2 c =
     let e = c .before .before .before in
     let args = e .before .before .before .before .before .args in
     let n = read e .number in
-    ap (λ (r : Written). written r (args .bytes .now)) (c .refused2 .ensures ∙ ap refusal n)
+    ap (λ (r : Written). written r (args .bytes .now)) (c .refused2 .ensures ∙ ap written-refused n)
     ∙ sends-refusal packed (λ t. length (packed t)) (λ t. refl) (args .bytes .now) (got e) (λ z. c .before .if2 .taken (n ∙ z))
     ∙ pack-on (args .row .now) (args .lists) (args .bytes .now) (holds (e .before))
 

@@ -15,11 +15,10 @@ use Rattle.model.specs.declared.Written.{Written}
 use Rattle.model.specs.Lists.{count-holds}
 use Rattle.model.specs.Expression.{Tree, size}
 use Rattle.model.specs.Forms.{row, read-packed}
-use Rattle.model.specs.Calls.{written}
+use Rattle.model.specs.Calls.{written-refused, written}
 use Rattle.model.proofs.Accepted.{packed-reads}
 use Rattle.model.proofs.Shape.{row-long}
 use Rattle.fields.specs.Rows.{lay}
-use Rattle.forms.specs.Packing.{refusal}
 use Rattle.forms.proofs.Whole.{of-read, Handed, handed, sends-refusal, sends-short, sends-all, unpack-wrong, unpack-on}
 use Rattle.forms.proofs.unpack_expression.Statement.{statement}
 use Rattle.forms.proofs.unpack_expression.Tie as tie
@@ -58,7 +57,7 @@ returns-2 c =
     let e = c .before .before .before in
     let args = e .before .before .before .before .before .args in
     let n = read e .number in
-    ap (λ (r : Written). written r (args .row .now)) (c .refused2 .ensures ∙ ap refusal n)
+    ap (λ (r : Written). written r (args .row .now)) (c .refused2 .ensures ∙ ap written-refused n)
     ∙ sends-refusal row size row-long (args .row .now) (got e) (λ z. c .before .if2 .taken (n ∙ z))
     ∙ unpack-on (args .bytes .now) (args .lists) (args .row .now) (holds (e .before))
 
