@@ -7,16 +7,17 @@ use Prim.Native.Nat.{ℕ, zero, suc, _≤_, _<_}
 use native.Mathlib.Omega.{arith}
 use lib.Dec.{leb, eqb}
 use borrow.Author.Tests.{leb-true, eqb-true, le-leb, eq-eqb}
-use lib.ListN.{getD, length, take, drop, replicate, length-take, length-drop, length-replicate}
+use lib.ListN.{getD, length, take, drop, replicate, length-take, length-drop, length-map, length-replicate}
 use Rattle.model.specs.declared.Reply.{Reply}
-use Rattle.model.specs.Outcome.{accepted}
+use Rattle.model.specs.Outcome.{accepted, sent, over}
 use Rattle.model.specs.Lists.{top, Numbers, lists-of}
 use Rattle.model.specs.Expression.{size}
 use Rattle.model.specs.Sets.{members-from}
-use Rattle.model.specs.Machine.{Call, next, call, calls, machine}
+use Rattle.model.specs.Machine.{Call, next, call, calls, machine, encode}
 use Rattle.model.specs.Run.{Result, run, begin, steps, Source, source-of, run-of}
 use Rattle.model.specs.Forms.{read-packed}
-use Rattle.model.specs.Demands.{lengths, Ran, Drawn, Broken, Demand-three, Third-demand}
+use Rattle.model.specs.Calls.{run-call}
+use Rattle.model.specs.Demands.{lengths, ran-all, Sound-run, Drawn, Broken, Demand-three, Third-demand, Third-demand-met}
 use Rattle.model.proofs.Order.{and-true, Up}
 use Rattle.model.proofs.Denoted.{up-ascending, members-up, members-are}
 use Rattle.model.proofs.Plain.{machine-append, draws}
@@ -93,6 +94,12 @@ run-accepted numbers ends expression bookmark codes ds room r e =
       are = cc (c .1);
     }
 
+-- the call that makes an accepted run sends back its result
+pub run-sends : (numbers ends expression : List ℕ) (bookmark : ℕ) (codes ds lent : List ℕ) (r : Result)
+    → run-of numbers ends expression bookmark codes ds (length lent) ≡ accepted r → run-call numbers ends expression bookmark codes ds lent ≡ ran-all r lent
+unfolding run-call sent over
+run-sends numbers ends expression bookmark codes ds lent r e = rw (e, length-map (r .replies) encode)
+
 pub source-accepted : (numbers ends expression : List ℕ) (s : Source) → source-of numbers ends expression ≡ accepted s
     → (lists-of numbers ends ≡ accepted (s .lists)) × (read-packed (length ends) expression ≡ accepted (s .tree))
 unfolding source-of
@@ -116,13 +123,15 @@ module _ (numbers ends expression : List ℕ) (n : Numbers numbers) (s : Source)
   unfolding run-of
   accepts bookmark codes ds room h₁ h₂ h₃ = rw (is, le-leb bookmark top h₁, eq-eqb (length codes) (length ds) h₂, le-leb (length codes) room h₃)
 
-  pub ran : (bookmark : ℕ) (codes ds : List ℕ) (room : ℕ) → bookmark ≤ top → length codes ≡ length ds → length codes ≤ room
-      → Ran numbers ends expression s bookmark codes ds room (run (s .lists) (s .tree) bookmark (calls codes ds))
+  pub ran : (bookmark : ℕ) (codes ds lent : List ℕ) → bookmark ≤ top → length codes ≡ length ds → length codes ≤ length lent
+      → Sound-run numbers ends expression s bookmark codes ds lent (run (s .lists) (s .tree) bookmark (calls codes ds))
   unfolding run
-  ran bookmark codes ds room h₁ h₂ h₃ =
+  ran bookmark codes ds lent h₁ h₂ h₃ =
+      let a = accepts bookmark codes ds (length lent) h₁ h₂ h₃ in
       let c = counted-run (s .lists) (s .tree) small bookmark (calls codes ds) in
       record {
-        accepts = accepts bookmark codes ds room h₁ h₂ h₃;
+        accepts = a;
+        sends = run-sends numbers ends expression bookmark codes ds lent _ a;
         by-the-steps = refl;
         bounded = omega (arith, c .counted, sum-le (steps (s .lists) (s .tree) (begin bookmark) (calls codes ds) .1 .readers .places) (lengths (s .lists) (s .tree)) (c .within));
         summed = c .counted;
@@ -137,7 +146,7 @@ module _ (numbers ends expression : List ℕ) (n : Numbers numbers) (s : Source)
     ascend = up-ascending bookmark ms (members-up (s .lists) up (s .tree) bookmark);
     every = members-are (s .lists) up (s .tree) bookmark;
     result = λ k. run (s .lists) (s .tree) bookmark (replicate k next);
-    ran = λ k ds e room f. rw (next-calls k ds e) at (ran bookmark (replicate k 0) ds room h (length-replicate k 0 ∙ sym e) (omega (arith, length-replicate k zero)));
+    ran = λ k ds e lent f. rw (next-calls k ds e) at (ran bookmark (replicate k 0) ds lent h (length-replicate k 0 ∙ sym e) (omega (arith, length-replicate k zero)));
     replies = λ k. ap (λ p. p .0) (join (s .lists) up (s .tree) bookmark h small (replicate k next) (small-nexts k)) ∙ draws (s .lists) up (s .tree) bookmark h k;
   }
     where
@@ -152,9 +161,9 @@ module _ (numbers ends expression : List ℕ) (n : Numbers numbers) (s : Source)
     broken k =
         record {
           first = one;
-          first-ran = λ room h. ran bookmark (take k codes) (take k ds) room low (omega (arith, length-take k codes, length-take k ds)) h;
+          first-ran = λ lent h. ran bookmark (take k codes) (take k ds) lent low (omega (arith, length-take k codes, length-take k ds)) h;
           second = two;
-          second-ran = λ room h. ran (one .bookmark) (drop k codes) (drop k ds) room one-low (omega (arith, length-drop k codes, length-drop k ds)) h;
+          second-ran = λ lent h. ran (one .bookmark) (drop k codes) (drop k ds) lent one-low (omega (arith, length-drop k codes, length-drop k ds)) h;
           replies = ap (λ p. p .0) whole;
           last = ap (λ p. p .1) whole;
         }
@@ -187,7 +196,7 @@ module _ (numbers ends expression : List ℕ) (n : Numbers numbers) (s : Source)
     gathered : Demand-three numbers ends expression s bookmark codes ds
     gathered = record {
       result = run (s .lists) (s .tree) bookmark (calls codes ds);
-      ran = λ room h. ran bookmark codes ds room low paired h;
+      ran = λ lent h. ran bookmark codes ds lent low paired h;
       plain = join (s .lists) up (s .tree) bookmark low small (calls codes ds) all-of-them;
       drawn = drawn (run (s .lists) (s .tree) bookmark (calls codes ds) .bookmark) (bookmark-low (s .lists) up (s .tree) bookmark low small (calls codes ds) all-of-them);
       broken = broken;
@@ -196,3 +205,10 @@ module _ (numbers ends expression : List ℕ) (n : Numbers numbers) (s : Source)
 -- demand 3
 pub demand-three : Third-demand
 demand-three numbers ends expression n s is bookmark low codes ds nd paired = gathered numbers ends expression n s is bookmark low codes ds paired nd
+
+-- and of one call
+pub third : (numbers ends expression : List ℕ) (bookmark : ℕ) (codes ds lent : List ℕ) → Numbers numbers → Numbers ds
+    → Third-demand-met numbers ends expression bookmark codes ds lent (run-call numbers ends expression bookmark codes ds lent)
+third numbers ends expression bookmark codes ds lent n nd s is low paired fits =
+    let d = demand-three numbers ends expression n s is bookmark low codes ds nd paired in
+    record { demand = d; is-result = d .ran lent fits .sends }

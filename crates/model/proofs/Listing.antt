@@ -52,7 +52,7 @@ module _ (input : List ℕ) (stored : List ℕ × List ℕ) (is-stored : halves 
         ascend = d .ascend;
         every = λ x. d .every x ∙ ap (λ (b : Bool). b && member ls t x) (le-leb 0 x (omega arith));
         result = d .result m;
-        ran = d .ran m (nexts (members-from ls t 0)) (length-replicate m 0) m (omega arith);
+        ran = d .ran m (nexts (members-from ls t 0)) (length-replicate m 0);
         replies = d .replies m ∙ ap₂ (λ (k : List ℕ) (n : ℕ). map Member k ++ replicate n Finished) (take-all m (members-from ls t 0) (omega arith)) more;
         moved = refl;
       }

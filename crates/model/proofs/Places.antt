@@ -181,7 +181,7 @@ pub record Counted (bounds : List ℕ) (rs : Readers) : Type 0 where
   pub within : (k : ℕ) → getD (rs .places) k 0 ≤ getD bounds k 0
   pub counted : rs .moves ≡ sum (rs .places)
 
-sum-set : (ps : List ℕ) (i n : ℕ) → i < length ps → sum (set ps i (getD ps i 0 + n)) ≡ sum ps + n
+pub sum-set : (ps : List ℕ) (i n : ℕ) → i < length ps → sum (set ps i (getD ps i 0 + n)) ≡ sum ps + n
 unfolding sum
 sum-set [] i n h = absurd (omega arith)
 sum-set (p ∷ ps) zero n h = omega arith
@@ -193,7 +193,7 @@ sum-le [] bounds h = omega arith
 sum-le (p ∷ ps) [] h = omega (arith, h 0, sum-le ps [] (λ k. h (suc k)))
 sum-le (p ∷ ps) (b ∷ bs) h = omega (arith, h 0, sum-le ps bs (λ k. h (suc k)))
 
-passed-le : (l : List ℕ) (e : ℕ) → passed l e ≤ length l
+pub passed-le : (l : List ℕ) (e : ℕ) → passed l e ≤ length l
 unfolding passed
 passed-le [] e = omega arith
 passed-le (x ∷ xs) e = go (ltb x e) (passed-le xs e)

@@ -3,9 +3,10 @@
 use mathlib.Core.List.{List, [], _∷_, _++_, map}
 use Prim.Native.Nat.{ℕ, _+_}
 use lib.Dec.{leb}
-use lib.ListN.{length}
+use lib.ListN.{length, replicate}
 use Rattle.model.specs.declared.Written.{Written}
 use Rattle.model.specs.declared.Delivered.{Delivered}
+use Rattle.model.specs.declared.Ran.{Ran}
 use Rattle.model.specs.Outcome.{accepted, _>>=_, _>>_, require, Sent, sent}
 use Rattle.model.specs.Lists.{count-holds, lists-of}
 use Rattle.model.specs.Expression.{size}
@@ -22,12 +23,22 @@ written r row = record { number = r .number; parts = r .count ∷ []; rows = row
 abbrev pub delivered : Delivered → List ℕ → List ℕ → Sent
 delivered r numbers ends = record { number = r .number; parts = r .lists ∷ r .numbers ∷ []; rows = numbers ∷ ends ∷ [] }
 
+-- the other parts of a run's result: "the moves, all 48 places and the bookmark"
+abbrev pub run-parts : ℕ → List ℕ → ℕ → List ℕ
+run-parts moves places bookmark = moves ∷ (places ++ (bookmark ∷ []))
+
+abbrev pub ran : Ran → List ℕ → Sent
+ran r row = record { number = r .number; parts = run-parts (r .moves) (r .places) (r .bookmark); rows = row ∷ [] }
+
 -- "A refusal hands back its number, every other part of the result 0": as such a struct
 abbrev pub written-refused : ℕ → Written
 written-refused n = record { number = n; count = 0 }
 
 abbrev pub delivered-refused : ℕ → Delivered
 delivered-refused n = record { number = n; lists = 0; numbers = 0 }
+
+abbrev pub ran-refused : ℕ → Ran
+ran-refused n = record { number = n; moves = 0; places = replicate 48 0; bookmark = 0 }
 
 -- one end for each list, from lists that start at `start`
 unfoldable pub ends-from : ℕ → List (List ℕ) → List ℕ
@@ -63,8 +74,8 @@ encode-delivery numbers ends lent = sent 1 (lent ∷ []) (do
   require 6 (leb (length (delivery ls)) (length lent))
   accepted (record { parts = length (delivery ls) ∷ []; written = delivery ls ∷ [] }))
 
--- a run: "the moves, all 48 places and the bookmark"; "It writes one reply for each call and nothing behind them"
+-- a run: "It writes one reply for each call and nothing behind them"
 unfoldable pub run-call : List ℕ → List ℕ → List ℕ → ℕ → List ℕ → List ℕ → List ℕ → Sent
 run-call numbers ends expression bookmark codes ds lent = sent 50 (lent ∷ []) (do
   r ← run-of numbers ends expression bookmark codes ds (length lent)
-  accepted (record { parts = r .moves ∷ (r .places ++ (r .bookmark ∷ [])); written = map encode (r .replies) ∷ [] }))
+  accepted (record { parts = run-parts (r .moves) (r .places) (r .bookmark); written = map encode (r .replies) ∷ [] }))

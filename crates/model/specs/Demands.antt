@@ -10,12 +10,12 @@ use Rattle.model.specs.Outcome.{Outcome, accepted, Sent}
 use Rattle.model.specs.Lists.{top, Numbers, ascending, lists-of}
 use Rattle.model.specs.Expression.{Tree, leaf, difference, union, intersection, Members, one, more, size, depth, count}
 use Rattle.model.specs.Sets.{among, member, all-numbers}
-use Rattle.model.specs.Machine.{calls, machine}
+use Rattle.model.specs.Machine.{calls, machine, encode}
 use Rattle.model.specs.Run.{Result, run, Source, source-of, run-of}
 use Rattle.model.specs.Fields.{Bytes}
 use Rattle.model.specs.Forms.{read-packed}
 use Rattle.model.specs.Delivery.{read-delivery}
-use Rattle.model.specs.Calls.{ends-from, unpack-expression, pack-expression, decode-delivery, encode-delivery}
+use Rattle.model.specs.Calls.{ends-from, unpack-expression, pack-expression, decode-delivery, encode-delivery, run-parts, run-call}
 use Rattle.model.specs.Program.{halves, Listing}
 
 -- the list numbers at the leaves, in expression order: "One list may stand at several leaves"
@@ -100,13 +100,23 @@ pub record Second-demand : Type 0 where
   pub delivery-written-back : (bytes lent-numbers lent-ends lent : List ℕ) → Bytes bytes → decode-delivery bytes lent-numbers lent-ends .number ≡ 0 → length bytes ≤ length lent
       → let s = decode-delivery bytes lent-numbers lent-ends in encode-delivery (getD (s .rows) 0 []) (take (getD (s .parts) 0 0) (getD (s .rows) 1 [])) lent ≡ wrote-all bytes lent
 
--- ---- demand 3, in the customer's sentences, over any lists and expression that nobody changes meanwhile
+-- ---- demand 3, about the call, in the customer's sentences, over any lists and expression that nobody changes meanwhile
+
+-- a call that has had this result: its parts, and in its lent row the replies and nothing behind them
+abbrev pub ran-all : Result → List ℕ → Sent
+ran-all r lent = record {
+  number = 0;
+  parts = run-parts (r .moves) (r .places) (r .bookmark);
+  rows = (map encode (r .replies) ++ drop (length (r .replies)) lent) ∷ [];
+}
+
 module _ (numbers ends expression : List ℕ) where
-  -- one run, accepted. "In every one of these runs the reported reader moves and places equal those of the steps in
-  -- document 01, and the moves never exceed the summed lengths of the lists at the expression's leaves"; a place never
-  -- passes its list's end, and is 0 at operators and unused nodes
-  pub record Ran (s : Source) (bookmark : ℕ) (codes ds : List ℕ) (room : ℕ) (r : Result) : Type 0 where
-    pub accepts : run-of numbers ends expression bookmark codes ds room ≡ accepted r
+  -- one run, accepted; the call sends back its result. "In every one of these runs the reported reader moves and places
+  -- equal those of the steps in document 01, and the moves never exceed the summed lengths of the lists at the
+  -- expression's leaves"; a place never passes its list's end, and is 0 at operators and unused nodes
+  pub record Sound-run (s : Source) (bookmark : ℕ) (codes ds lent : List ℕ) (r : Result) : Type 0 where
+    pub accepts : run-of numbers ends expression bookmark codes ds (length lent) ≡ accepted r
+    pub sends : run-call numbers ends expression bookmark codes ds lent ≡ ran-all r lent
     pub by-the-steps : r ≡ run (s .lists) (s .tree) bookmark (calls codes ds)
     pub bounded : r .moves ≤ sum (lengths (s .lists) (s .tree))
     pub summed : r .moves ≡ sum (r .places)
@@ -120,7 +130,7 @@ module _ (numbers ends expression : List ℕ) where
     pub ascend : ascending members ≡ true
     pub every : (x : ℕ) → among x members ≡ leb bookmark x && member (s .lists) (s .tree) x
     pub result : ℕ → Result
-    pub ran : (n : ℕ) (ds : List ℕ) → length ds ≡ n → (room : ℕ) → n ≤ room → Ran s bookmark (replicate n 0) ds room (result n)
+    pub ran : (n : ℕ) (ds : List ℕ) → length ds ≡ n → (lent : List ℕ) → n ≤ length lent → Sound-run s bookmark (replicate n 0) ds lent (result n)
     pub replies : (n : ℕ) → result n .replies ≡ map Member (take n members) ++ replicate (n - length members) Finished
 
   -- "Wherever between its calls, or at either end, such a list is broken off, the rest is taken up from the bookmark
@@ -128,9 +138,9 @@ module _ (numbers ends expression : List ℕ) where
   -- k calls, each part into a reply row of its own
   pub record Broken (s : Source) (bookmark : ℕ) (codes ds : List ℕ) (r : Result) (k : ℕ) : Type 0 where
     pub first : Result
-    pub first-ran : (room : ℕ) → length (take k codes) ≤ room → Ran s bookmark (take k codes) (take k ds) room first
+    pub first-ran : (lent : List ℕ) → length (take k codes) ≤ length lent → Sound-run s bookmark (take k codes) (take k ds) lent first
     pub second : Result
-    pub second-ran : (room : ℕ) → length (drop k codes) ≤ room → Ran s (first .bookmark) (drop k codes) (drop k ds) room second
+    pub second-ran : (lent : List ℕ) → length (drop k codes) ≤ length lent → Sound-run s (first .bookmark) (drop k codes) (drop k ds) lent second
     pub replies : r .replies ≡ first .replies ++ second .replies
     pub last : r .bookmark ≡ second .bookmark
 
@@ -138,10 +148,15 @@ module _ (numbers ends expression : List ℕ) where
   -- order, and the bookmark are exactly those of document 01's plain machine", and the rest
   pub record Demand-three (s : Source) (bookmark : ℕ) (codes ds : List ℕ) : Type 0 where
     pub result : Result
-    pub ran : (room : ℕ) → length codes ≤ room → Ran s bookmark codes ds room result
+    pub ran : (lent : List ℕ) → length codes ≤ length lent → Sound-run s bookmark codes ds lent result
     pub plain : (result .replies, result .bookmark) ≡ machine (s .lists) (s .tree) bookmark (calls codes ds)
     pub drawn : Drawn s (result .bookmark)
     pub broken : (k : ℕ) → Broken s bookmark codes ds result k
+
+  -- demand 3 of what one call has sent back: that is the result of which the demand speaks, over the row that it was lent
+  pub record Meets-third (s : Source) (bookmark : ℕ) (codes ds lent : List ℕ) (back : Sent) : Type 0 where
+    pub demand : Demand-three s bookmark codes ds
+    pub is-result : back ≡ ran-all (demand .result) lent
 
 -- the demand: "For every list of next, at-or-past, past and check calls, unknown codes included, from any accepted
 -- bookmark and over any accepted lists and expression". 32-bit rows hold numbers; lists, expression and bookmark are
@@ -151,12 +166,19 @@ Third-demand = (numbers ends expression : List ℕ) → Numbers numbers → (s :
     → (bookmark : ℕ) → bookmark ≤ top → (codes ds : List ℕ) → Numbers ds → length codes ≡ length ds
     → Demand-three numbers ends expression s bookmark codes ds
 
+-- the demand of one call, for its contract: if the tests ahead of 13 accept what it was given, and 13 as well, then it has
+-- sent back the result that the demand asks for
+abbrev pub Third-demand-met : List ℕ → List ℕ → List ℕ → ℕ → List ℕ → List ℕ → List ℕ → Sent → Type 0
+Third-demand-met numbers ends expression bookmark codes ds lent back = (s : Source) → source-of numbers ends expression ≡ accepted s → bookmark ≤ top
+    → length codes ≡ length ds → length codes ≤ length lent → Meets-third numbers ends expression s bookmark codes ds lent back
+
 -- a next for each member and one more; its number is ignored
 abbrev pub nexts : List ℕ → List ℕ
 nexts members = replicate (suc (length members)) 0
 
 -- ---- the program: every member of the delivered lists' expression, ascending, and the moves of "one run from bookmark
--- 0, whose only finished is its last reply", of the delivered lists laid one after the other
+-- 0, whose only finished is its last reply", of the delivered lists laid one after the other, into any reply row that is
+-- long enough
 pub record Listed (input : List ℕ) (l : Listing) : Type 0 where
   pub stored : List ℕ × List ℕ
   pub is-stored : halves input ≡ accepted stored
@@ -166,6 +188,7 @@ pub record Listed (input : List ℕ) (l : Listing) : Type 0 where
   pub ascend : ascending (l .members) ≡ true
   pub every : (x : ℕ) → among x (l .members) ≡ member (source .lists) (source .tree) x
   pub result : Result
-  pub ran : Ran (all-numbers (source .lists)) (ends-from 0 (source .lists)) (stored .0) source 0 (nexts (l .members)) (nexts (l .members)) (suc (length (l .members))) result
+  pub ran : (lent : List ℕ) → suc (length (l .members)) ≤ length lent
+      → Sound-run (all-numbers (source .lists)) (ends-from 0 (source .lists)) (stored .0) source 0 (nexts (l .members)) (nexts (l .members)) lent result
   pub replies : result .replies ≡ map Member (l .members) ++ (Finished ∷ [])
   pub moved : result .moves ≡ l .moves

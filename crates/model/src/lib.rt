@@ -1,6 +1,6 @@
 // The types that the definitions and every other crate share. Their meaning is in specs/.
 ghost use mathlib.Core.Path.{_≡_};
-ghost use Rattle.model.specs.Calls.{written-refused, delivered-refused};
+ghost use Rattle.model.specs.Calls.{written-refused, delivered-refused, ran-refused};
 
 // One node of an expression: a list by its number, a difference of two nodes, a union or an intersection of 1 to 8
 // (their number). Its member nodes follow it, each with all that is below it.
@@ -51,6 +51,28 @@ impl Delivered {
             number,
             lists: 0,
             numbers: 0,
+        }
+    }
+}
+
+// What a run hands back: the number of a refusal or 0, the moves, the place of each node's reader, and the bookmark.
+pub struct Ran {
+    pub number: u32,
+    pub moves: u32,
+    pub places: [u16; 48],
+    pub bookmark: u64,
+}
+
+impl Ran {
+    // The same, of what a run hands back.
+    pub fn refused(number: u32) -> Self
+        ensures { λ r. ⌜ r ≡ ran-refused number ⌝ }
+    {
+        Ran {
+            number,
+            moves: 0,
+            places: [0u16; 48],
+            bookmark: 0,
         }
     }
 }
