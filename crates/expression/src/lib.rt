@@ -158,7 +158,7 @@ fn is_named(lists: usize, node: Node) -> bool
 }
 
 // How many member nodes follow a node.
-fn members_of(node: Node) -> u8
+pub fn members_of(node: Node) -> u8
     ensures { λ r. ⌜ r ≡ members node ⌝ }
 {
     match node {

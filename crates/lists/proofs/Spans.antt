@@ -23,10 +23,12 @@ counts n e = let a = and-true (leb 1 n) (leb n 32) e in (leb-true 1 n (a .0), le
 -- ---- the place of list k
 
 -- list k runs from the end before it to its own end, inside the numbers
-record Runs (numbers : List ℕ) (start : ℕ) (ends : List ℕ) (k : ℕ) : Type 0 where
-  order : getD (start ∷ ends) k 0 ≤ getD ends k 0
-  inside : getD ends k 0 ≤ length numbers
-  many : length (getD (lists-from numbers start ends) k []) ≡ getD ends k 0 - getD (start ∷ ends) k 0
+pub record Runs (numbers : List ℕ) (start : ℕ) (ends : List ℕ) (k : ℕ) : Type 0 where
+  pub order : getD (start ∷ ends) k 0 ≤ getD ends k 0
+  pub inside : getD ends k 0 ≤ length numbers
+  pub few : getD ends k 0 - getD (start ∷ ends) k 0 ≤ 65535
+  pub many : length (getD (lists-from numbers start ends) k []) ≡ getD ends k 0 - getD (start ∷ ends) k 0
+  pub is : getD (lists-from numbers start ends) k [] ≡ part numbers (getD (start ∷ ends) k 0) (getD ends k 0)
 
 runs : (numbers : List ℕ) (start : ℕ) (ends : List ℕ) (k : ℕ) → ends-hold (length numbers) start ends ≡ true → k < length ends → Runs numbers start ends k
 unfolding lists-from part
@@ -36,25 +38,31 @@ runs numbers start (stop ∷ ends) zero e lt =
     record {
       order = n .order;
       inside = n .inside;
+      few = n .few;
       many = omega (arith, n .order, n .inside, length-take (stop - start) (drop start numbers), length-drop start numbers);
+      is = refl;
     }
 runs numbers start (stop ∷ ends) (suc k) e lt =
     let n = hold-next (length numbers) start (stop ∷ ends) 0 (omega arith) e in
     let r = runs numbers stop ends k (n .rest) (omega arith) in
-    record { order = r .order; inside = r .inside; many = r .many }
+    record { order = r .order; inside = r .inside; few = r .few; many = r .many; is = r .is }
+
+-- number 0 is acceptance: each test has a number of its own
+pub passed : (numbers ends : List ℕ) → number-of (lists-of numbers ends) ≡ 0 → lists-of numbers ends ≡ accepted (lists-from numbers 0 ends)
+unfolding lists-of number-of
+passed numbers ends h = go (count-holds (length ends)) (ends-hold (length numbers) 0 ends) (all-ascending (lists-from numbers 0 ends)) h
+  where
+    go : (a b c : Bool) → number-of (require 7 a >> (require 10 b >> (require 11 c >> accepted (lists-from numbers 0 ends)))) ≡ 0
+        → (require 7 a >> (require 10 b >> (require 11 c >> accepted (lists-from numbers 0 ends)))) ≡ accepted (lists-from numbers 0 ends)
+    go true true true h = refl
+    go true true false h = absurd (omega arith)
+    go true false c h = absurd (omega arith)
+    go false b c h = absurd (omega arith)
 
 module _ (numbers ends : List ℕ) (k : ℕ) where
-  -- number 0 is acceptance: each test has a number of its own
-  passed : number-of (lists-of numbers ends) ≡ 0 → lists-of numbers ends ≡ accepted (lists-from numbers 0 ends)
-  unfolding lists-of number-of
-  passed h = go (count-holds (length ends)) (ends-hold (length numbers) 0 ends) (all-ascending (lists-from numbers 0 ends)) h
-    where
-      go : (a b c : Bool) → number-of (require 7 a >> (require 10 b >> (require 11 c >> accepted (lists-from numbers 0 ends)))) ≡ 0
-          → (require 7 a >> (require 10 b >> (require 11 c >> accepted (lists-from numbers 0 ends)))) ≡ accepted (lists-from numbers 0 ends)
-      go true true true h = refl
-      go true true false h = absurd (omega arith)
-      go true false c h = absurd (omega arith)
-      go false b c h = absurd (omega arith)
+  -- so it does where no test refuses
+  pub list-runs : lists-of numbers ends ≡ accepted (lists-from numbers 0 ends) → k < length ends → Runs numbers 0 ends k
+  list-runs e lt = runs numbers 0 ends k (lists-accepted numbers ends (lists-from numbers 0 ends) e .hold) lt
 
   -- a refusal, or no list k: the empty part at the start
   pub span-refused : (number-of (lists-of numbers ends) ≡ 0 → ⊥) → span-of numbers ends k ≡ record { start = 0; size = 0 }
@@ -66,7 +74,7 @@ module _ (numbers ends : List ℕ) (k : ℕ) where
       go (accepted ls) e = absurd (h (ap number-of e))
 
   pub span-missing : number-of (lists-of numbers ends) ≡ 0 → length ends ≤ k → span-of numbers ends k ≡ record { start = 0; size = 0 }
-  span-missing h le = part-missing numbers ends (lists-from numbers 0 ends) k (passed h) (omega (arith, lists-length numbers 0 ends))
+  span-missing h le = part-missing numbers ends (lists-from numbers 0 ends) k (passed numbers ends h) (omega (arith, lists-length numbers 0 ends))
 
   -- list k of accepted lists
   pub record There : Type 0 where
@@ -77,12 +85,12 @@ module _ (numbers ends : List ℕ) (k : ℕ) where
   pub span-there : number-of (lists-of numbers ends) ≡ 0 → k < length ends → There
   unfolding span-of or-empty
   span-there h lt =
-      let r = runs numbers 0 ends k (lists-accepted numbers ends (lists-from numbers 0 ends) (passed h) .hold) lt in
+      let r = list-runs (passed numbers ends h) lt in
       let here : k < length (lists-from numbers 0 ends) = omega (arith, lists-length numbers 0 ends) in
       record {
         order = r .order;
         inside = r .inside;
-        is = rw (passed h, lt-ltb k (length (lists-from numbers 0 ends)) here, r .many);
+        is = rw (passed numbers ends h, lt-ltb k (length (lists-from numbers 0 ends)) here, r .many);
       }
 
   -- the part lies inside the numbers, whatever is lent

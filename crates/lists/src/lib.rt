@@ -125,7 +125,7 @@ pub fn test_lists(numbers: &[u32], ends: &[u32]) -> u32
 }
 
 // Where list k starts: at the end of the list before it, the first one at 0.
-fn start_of(ends: &[u32], k: usize) -> usize
+pub fn start_of(ends: &[u32], k: usize) -> usize
     requires { ⌜ k ≤ length (now ends) ⌝ }
     ensures { λ r. ⌜ r ≡ getD (0 ∷ now (ends .entry)) k 0 ⌝ }
 {
