@@ -1,0 +1,168 @@
+-- `seek_list` meets its contract: list k is the run of numbers that the reader gets, and the reader stops where the step does.
+-- The moves fit 32 bits, since they are within the sum of 48 places of 16 bits. Assumes nothing.
+use borrow.Author.Needs.{needs}
+use mathlib.Core.Path.{_≡_, sym, ap, ap₂, _∙_}
+use mathlib.Core.List.{List, []}
+use Prim.Native.Nat.{ℕ, _+_, _-_, _*_, _≤_, _<_}
+use native.Mathlib.Omega.{arith}
+use native.Mathlib.Numerals.{add-one}
+use mir.Syntax.{w16}
+use mir.Val.{Fits}
+use lib.ListN.{length, getD, take, drop}
+use Rattle.model.specs.Lists.{top, part, lists-from}
+use Rattle.model.specs.Steps.{passed}
+use Rattle.model.specs.Demands.{sum}
+use Rattle.lists.proofs.Spans.{list-runs}
+use Rattle.reader.specs.Sought.{readers-of}
+use Rattle.reader.proofs.Moves.{sum-bound, Stopped, stopped}
+use Rattle.reader.proofs.seek_list.Statement.{statement}
+use Rattle.reader.proofs.seek_list.Tie as tie
+
+-- list k runs from `from` to `stop` in the numbers
+record Listed (numbers ends : List ℕ) (k from stop : ℕ) : Type 0 where
+  order : from ≤ stop
+  inside : stop ≤ length numbers
+  few : stop - from ≤ 65535
+  many : length (getD (lists-from numbers 0 ends) k []) ≡ stop - from
+  is : take (stop - from) (drop from numbers) ≡ getD (lists-from numbers 0 ends) k []
+
+listed : (c : tie.After-start-of2) → let args = c .before .before .before .before .args in Listed (args .numbers .now) (args .ends .now) (args .k) (c .before .start-of .result) (c .start-of2 .result)
+unfolding part
+listed c =
+    let start = c .before .before .before .before in
+    let args = start .args in
+    let from = c .before .start-of .ensures in
+    let stop = rw add-one at (c .start-of2 .ensures) in
+    let r = list-runs (args .numbers .now) (args .ends .now) (args .k) (start .pre .0) (start .pre .1 .0 .0) in
+    rw (from, stop) (record { order = r .order; inside = r .inside; few = r .few; many = r .many; is = sym (r .is) })
+
+-- the places are 48 numbers of 16 bits, so that their sum is far below 32 bits
+place-fits : (c : tie.Start) (i : ℕ) → Fits w16 (getD (c .args .start .places) i 0)
+place-fits c i = search needs
+
+places-many : (c : tie.Start) → length (c .args .start .places) ≡ 48
+places-many c = search needs
+
+places-sum : (c : tie.Start) → sum (c .args .start .places) ≤ 48 * 65535
+places-sum c = rw (places-many c) at (sum-bound (c .args .start .places) 65535 (λ i. omega (arith, place-fits c i .fits)))
+
+-- the reader stops where the step does
+stops : (c : tie.After-moved) → let args = c .before .before .before .before .before .before .before .before .args in Stopped (getD (lists-from (args .numbers .now) 0 (args .ends .now)) (args .k) []) (args .node) (args .to) (readers-of (args .start)) (c .moved .result)
+stops c =
+    let args = c .before .before .before .before .before .before .before .before .args in
+    stopped _ (args .node) (args .to) (readers-of (args .start)) (c .moved .result)
+    (c .moved .ensures ∙ ap₂ (λ (b : ℕ) (l : List ℕ). b + passed (drop b l) (args .to)) (c .before .index .ensures .0) (listed (c .before .before .before .before) .is))
+
+start-of-requires : tie.Need-start-of-requires
+start-of-requires c κs = search needs
+
+add-start-of : tie.Need-add-start-of
+add-start-of c = search needs
+
+start-of-requires-2 : tie.Need-start-of-requires-2
+start-of-requires-2 c κs = search needs
+
+mul-list : tie.Need-mul-list
+mul-list c = omega (arith, listed c .order, listed c .inside)
+
+sub-list : tie.Need-sub-list
+sub-list c = omega (arith, listed c .order, listed c .inside)
+
+part-list-start : tie.Need-part-list-start
+part-list-start c = omega (arith, listed c .order, listed c .inside)
+
+part-list-end : tie.Need-part-list-end
+part-list-end c = omega (arith, listed c .order, listed c .inside)
+
+mul-index : tie.Need-mul-index
+mul-index c = search needs
+
+element-copy-out-index : tie.Need-element-copy-out-index
+element-copy-out-index c = search needs
+
+index-requires : tie.Need-index-requires
+index-requires c κs = search needs
+
+moved-requires : tie.Need-moved-requires
+moved-requires c κs = search needs
+
+place-of-requires : tie.Need-place-of-requires
+place-of-requires c κs =
+    let l = listed (c .before .before .before .before) in
+    stops c .small (omega (arith, c .before .index .ensures .0, c .before .index .ensures .1)) (omega (arith, l .many, l .few))
+
+mul-readers : tie.Need-mul-readers
+mul-readers c = search needs
+
+element-write-readers : tie.Need-element-write-readers
+element-write-readers c = search needs
+
+sub-moves-of : tie.Need-sub-moves-of
+sub-moves-of c = search needs
+
+moves-of-requires : tie.Need-moves-of-requires
+moves-of-requires c κs = search needs
+
+add-readers : tie.Need-add-readers
+add-readers c = omega (arith, places-sum (c .before .before .before .before .before .before .before .before .before .before), c .moves-of .ensures)
+
+mul-wide : tie.Need-mul-wide
+mul-wide c = search needs
+
+shared-slice-read-wide : tie.Need-shared-slice-read-wide
+shared-slice-read-wide c = search needs
+
+wide-requires : tie.Need-wide-requires
+wide-requires c κs = search needs
+
+returns : tie.Need-returns
+returns c =
+    let m = c .before .before .before in
+    let d = m .before .before in
+    let start = d .before .before .before .before .before .before .before .before in
+    let l = listed (d .before .before .before .before) in
+    let place : ℕ = d .moved .result in
+    let number = c .wide .ensures ∙ ap (λ (xs : List ℕ). getD xs place 0) (l .is) in
+    let small : c .wide .result < top = omega (arith, c .wide .ensures, c .before .shared-slice-known3 .given place .fits) in
+    rw (m .before .place-of .ensures, m .moves-of .ensures, d .before .index .ensures .0) (
+      record { above = rw number (stops d .above (omega (arith, l .many, c .before .before .if1 .taken))); low = omega arith; tallied = stops d .within (omega (arith, places-many start)) (start .pre .1 .1 .1) },
+      stops d .number (c .wide .result) (omega (arith, l .many, c .before .before .if1 .taken)) number small,
+    )
+
+returns-2 : tie.Need-returns-2
+returns-2 c =
+    let m = c .before in
+    let d = m .before .before in
+    let start = d .before .before .before .before .before .before .before .before in
+    let l = listed (d .before .before .before .before) in
+    rw (m .before .place-of .ensures, m .moves-of .ensures, d .before .index .ensures .0) (
+      record { above = start .pre .1 .1 .0; low = omega arith; tallied = stops d .within (omega (arith, places-many start)) (start .pre .1 .1 .1) },
+      stops d .finished (omega (arith, l .many, c .if1 .left)),
+    )
+
+pub seek-list-spec : {M : Type 1} → statement M
+seek-list-spec =
+    tie.close
+    (tie.spec
+    start-of-requires
+    add-start-of
+    start-of-requires-2
+    mul-list
+    sub-list
+    part-list-start
+    part-list-end
+    mul-index
+    element-copy-out-index
+    index-requires
+    moved-requires
+    place-of-requires
+    mul-readers
+    element-write-readers
+    sub-moves-of
+    moves-of-requires
+    add-readers
+    mul-wide
+    shared-slice-read-wide
+    wide-requires
+    returns
+    returns-2)
