@@ -1,0 +1,3 @@
+-- The theory about seeking over member nodes.
+pub mod Turns
+pub mod Nodes
