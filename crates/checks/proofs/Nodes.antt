@@ -1,0 +1,82 @@
+-- The check of a node is that of a list, of a difference or of member nodes, by the node's kind. Assumes nothing.
+use mathlib.Core.Path.{_≡_, ap, _∙_}
+use mathlib.Core.Bool.{Bool, true, false, not}
+use mathlib.Core.List.{List, []}
+use Prim.Native.Nat.{ℕ, _+_, _<_}
+use native.Mathlib.Omega.{arith}
+use lib.ListN.{length, getD}
+use Rattle.model.specs.declared.Node.{Node}
+use Rattle.model.specs.declared.Node.the-variants.{Leaf, Difference, Union, Intersection}
+use Rattle.model.specs.Outcome.{refused, accepted}
+use Rattle.model.specs.Lists.{lists-from}
+use Rattle.model.specs.Expression.{Tree}
+use Rattle.model.specs.Forms.{node-of}
+use Rattle.model.specs.Steps.{Readers, Checked, says, read, is-at, turned, on-yes, check-node}
+use Rattle.expression.specs.Reading.{members}
+use Rattle.reader.specs.Rows.{Standing, Standing-each, Ready}
+use Rattle.reader.proofs.Standing.{kind, below, many-below, leaf-is, union-is, intersection-is, root, root-is, listed}
+use Rattle.reader.proofs.Members.{first-is, below-at, pair}
+use Rattle.checks.specs.Telling.{check-until}
+use Rattle.checks.proofs.Until.{until-operator, Says, Say}
+
+-- the node of a union or an intersection of so many
+abbrev pub joins : Bool → ℕ → Node
+joins true n = Union n
+joins false n = Intersection n
+
+many : (b : Bool) (t : Tree) (n : ℕ) → kind t ≡ joins b n → length (below t) ≡ n
+many true t n e = many-below t ∙ ap members e
+many false t n e = many-below t ∙ ap members e
+
+until-below : (b : Bool) (ls : List (List ℕ)) (t : Tree) (n i d : ℕ) (rs : Readers) → kind t ≡ joins b n → check-until b ls (below t) (1 + i) d rs ≡ check-node ls t i d rs
+until-below true ls t n i d rs e = let u = union-is t n e in rw (u .is) (until-operator ls true (u .trees) i d rs)
+until-below false ls t n i d rs e = let u = intersection-is t n e in rw (u .is) (until-operator ls false (u .trees) i d rs)
+
+module _ {numbers ends nodes behind : List ℕ} (ready : Ready numbers ends nodes behind) (i : ℕ) where
+  -- ---- what stands below the node
+
+  pub not-unknown : (n : ℕ) → node-of (getD nodes i 0) ≡ refused n → Standing (length ends) nodes i → ⊥
+  not-unknown n e s = let r = root (length ends) nodes (s .tree) i (s .stands) in let z : _≡_ {A = ℕ} 0 1 = cc in omega arith
+
+  pub list-there : (k : ℕ) → node-of (getD nodes i 0) ≡ accepted (Leaf k) → Standing (length ends) nodes i → k < length ends
+  list-there k e s = listed (length ends) nodes (s .tree) i k (s .stands) e
+
+  pub members-stand : (b : Bool) (n : ℕ) → node-of (getD nodes i 0) ≡ accepted (joins b n) → Standing (length ends) nodes i → Standing-each (length ends) nodes (i + 1) n
+  members-stand b n e s = record {
+    trees = below (s .tree);
+    stand = below-at ready i (s .tree) (s .stands);
+    many = many b (s .tree) n (root-is (length ends) nodes (s .tree) i (joins b n) (s .stands) e);
+  }
+
+  module _ (e : node-of (getD nodes i 0) ≡ accepted Difference) (s : Standing (length ends) nodes i) where
+    pub first-stands : Standing (length ends) nodes (i + 1)
+    first-stands = let p = pair ready i e (s .tree) (s .stands) in record { tree = p .first; stands = p .first-at }
+
+    pub second-stands : Standing (length ends) nodes (getD behind (i + 1) 0)
+    second-stands = let p = pair ready i e (s .tree) (s .stands) in record { tree = p .second; stands = p .second-at }
+
+  -- ---- what its check says
+  module _ (d : ℕ) (rs : Readers) where
+    pub of-list : (k : ℕ) (c : Checked) → node-of (getD nodes i 0) ≡ accepted (Leaf k)
+        → c ≡ is-at d (read (getD (lists-from numbers 0 ends) k []) i d rs) → Says numbers ends nodes d i rs c
+    unfolding check-node
+    of-list k c e a t s = rw (leaf-is t k (root-is (length ends) nodes t i (Leaf k) s e)) a
+
+    pub of-members : (b : Bool) (n : ℕ) (c : Checked) → node-of (getD nodes i 0) ≡ accepted (joins b n)
+        → Say numbers ends nodes d b (i + 1) n rs c → Says numbers ends nodes d i rs c
+    of-members b n c e a t s =
+        let k = root-is (length ends) nodes t i (joins b n) s e in
+        a (below t) (many b t n k) (below-at ready i t s) ∙ rw (← first-is ready i) (until-below b (lists-from numbers 0 ends) t n i d rs k)
+
+    module _ (e : node-of (getD nodes i 0) ≡ accepted Difference) (y : Bool) (rs₁ : Readers) (a : Says numbers ends nodes d (i + 1) rs (says y rs₁)) where
+      pub of-no : y ≡ false → Says numbers ends nodes d i rs (says y rs₁)
+      unfolding check-node on-yes
+      of-no h t s =
+          let p = pair ready i e t s in
+          rw (p .is, first-is ready i, ← (a (p .first) (p .first-at)), h)
+
+      pub of-yes : (z : Bool) (rs₂ : Readers) → y ≡ true → Says numbers ends nodes d (getD behind (i + 1) 0) rs₁ (says z rs₂) → Says numbers ends nodes d i rs (says (not z) rs₂)
+      unfolding check-node on-yes turned
+      of-yes z rs₂ h second t s =
+          let p = pair ready i e t s in
+          rw (p .is, ← (p .after), first-is ready i, ← (a (p .first) (p .first-at)), h, ← (second (p .second) (p .second-at)))

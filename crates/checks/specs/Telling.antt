@@ -1,0 +1,38 @@
+-- What the checks hand back, by the steps of the model, whatever trees stand at the node.
+use mathlib.Core.Path.{_≡_}
+use mathlib.Core.Bool.{Bool, true, false, not}
+use mathlib.Core.List.{List, [], _∷_}
+use Prim.Native.Nat.{ℕ, _+_}
+use lib.ListN.{length}
+use Rattle.model.specs.Lists.{lists-from}
+use Rattle.model.specs.Expression.{Tree, size}
+use Rattle.model.specs.Steps as model
+use Rattle.model.specs.Steps.{Check, says, on-yes, on-no, check-node}
+use Rattle.reader.specs.declared.Readers.{Readers}
+use Rattle.reader.specs.Rows.{Stands, Stand-each}
+use Rattle.reader.specs.Sought.{readers-of}
+use Rattle.checks.specs.declared.Checked.{Checked}
+
+-- yes or no, and the readers
+abbrev pub checked-of : Checked → model.Checked
+checked-of c = says (c .yes) (readers-of (c .readers))
+
+-- the check of the node i for d: `Steps.check-node` of the tree that stands there
+abbrev pub Tells : (numbers ends nodes : List ℕ) → ℕ → ℕ → Readers → Checked → Type 0
+Tells numbers ends nodes i d start r = (t : Tree) → Stands (length ends) nodes t i → checked-of r ≡ check-node (lists-from numbers 0 ends) t i d (readers-of start)
+
+-- the reply holds where it is the one sought, else the next is checked too: on no for a union, on yes for an intersection
+abbrev pub unless : Bool → model.Checked → (model.Readers → model.Checked) → model.Checked
+unless true c next = on-no c next
+unless false c next = on-yes c next
+
+-- `Steps.check-union` (until a yes) and `Steps.check-intersection` (until a no) over any number of trees from the node i
+-- on: with none left, no one has said so
+unfoldable pub check-until : Bool → List (List ℕ) → List Tree → ℕ → Check
+check-until b ls [] i d rs = says (not b) rs
+check-until b ls (t ∷ ts) i d rs = unless b (check-node ls t i d rs) (check-until b ls ts (i + size t) d)
+
+-- the checks of n member nodes from the node i on
+abbrev pub Tells-in : Bool → (numbers ends nodes : List ℕ) → ℕ → ℕ → ℕ → Readers → Checked → Type 0
+Tells-in b numbers ends nodes i n d start r = (ts : List Tree) → length ts ≡ n → Stand-each (length ends) nodes ts i
+    → checked-of r ≡ check-until b (lists-from numbers 0 ends) ts i d (readers-of start)
