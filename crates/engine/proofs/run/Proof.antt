@@ -1,0 +1,184 @@
+-- `run` meets its contract: test by test, in the order of `Run.run-of`; behind the last the tree that was read stands at the
+-- row's first node, so that `answer` sends back what the definition does. Assumes nothing.
+use mathlib.Core.Path.{_≡_, refl, sym, ap, _∙_}
+use mathlib.Core.List.{List}
+use Prim.Native.Nat.{ℕ}
+use borrow.Author.Needs.{needs}
+use lib.ListN.{length}
+use Rattle.model.specs.declared.Ran.{Ran}
+use Rattle.model.specs.Outcome.{accepted, number-of, Sent}
+use Rattle.model.specs.Lists.{lists-from, lists-of}
+use Rattle.model.specs.Forms.{read-packed}
+use Rattle.model.specs.Calls.{ran, ran-refused, run-call}
+use Rattle.model.specs.Demands.{Third-demand-met}
+use Rattle.model.proofs.DemandThree.{third}
+use Rattle.model.proofs.Told.{Success-of}
+use Rattle.lists.proofs.Spans.{passed as lists-passed}
+use Rattle.reader.specs.Rows.{Stands}
+use Rattle.engine.proofs.Whole.{expression-passes, read-number, read-stands, whole, refuses-lists, refuses-expression, refuses-bookmark, refuses-unpaired, refuses-short, accepts, is-run}
+use Rattle.engine.proofs.run.Statement.{statement}
+use Rattle.engine.proofs.run.Tie as tie
+
+abbrev entry : tie.After-test-lists → tie.Start
+entry c = c .before .before .before .before .before .before .before
+
+-- the lists pass their tests
+pass : (c : tie.Else1) → let args = entry (c .before) .args in number-of (lists-of (args .numbers .now) (args .ends .now)) ≡ 0
+pass c = sym (c .before .test-lists .ensures) ∙ c .if1 .left
+
+-- a tree was read
+read : (c : tie.Else2) → let args = entry (c .before .before .before .before) .args in Success-of (read-packed (length (args .ends .now)) (args .packed .now))
+read c =
+    let e = c .before .before in
+    let args = entry (e .before .before) .args in
+    expression-passes (length (args .ends .now)) (args .packed .now) (sym (read-number _ (e .read-expression .ensures)) ∙ c .if2 .left)
+
+-- and stands at the first node
+stands : (c : tie.Else2) → let args = entry (c .before .before .before .before) .args in Stands (length (args .ends .now)) (c .before .before .read-expression .result .nodes) (read c .got) 0
+stands c =
+    let e = c .before .before in
+    let args = entry (e .before .before) .args in
+    read-stands (args .numbers .now) (args .ends .now) (args .packed .now) (read c .got) (pass (e .before)) (read c .is) (e .read-expression .ensures)
+
+-- a refusal handed back
+handed : (lent : List ℕ) {r : Ran} {n : ℕ} → r ≡ ran-refused n → ran r lent ≡ ran (ran-refused n) lent
+handed lent e = ap (λ (x : Ran). ran x lent) e
+
+-- what comes behind both is the run's
+passed : (c : tie.Else2) → let args = entry (c .before .before .before .before) .args in
+    whole (args .bookmark) (args .codes .now) (args .arguments .now) (args .replies .now) (accepted (lists-from (args .numbers .now) 0 (args .ends .now))) (accepted (read c .got))
+    ≡ run-call (args .numbers .now) (args .ends .now) (args .packed .now) (args .bookmark) (args .codes .now) (args .arguments .now) (args .replies .now)
+passed c =
+    let args = entry (c .before .before .before .before) .args in
+    is-run (args .bookmark) (args .codes .now) (args .arguments .now) (args .replies .now) (args .numbers .now) (args .ends .now) (args .packed .now)
+    (lists-passed (args .numbers .now) (args .ends .now) (pass (c .before .before .before))) (read c .is)
+
+-- the call is the definition's, and what is sent back meets demand 3
+met : (c : tie.After-test-lists) (back : Sent) → let args = entry c .args in
+    back ≡ run-call (args .numbers .now) (args .ends .now) (args .packed .now) (args .bookmark) (args .codes .now) (args .arguments .now) (args .replies .now)
+    → (back ≡ run-call (args .numbers .now) (args .ends .now) (args .packed .now) (args .bookmark) (args .codes .now) (args .arguments .now) (args .replies .now))
+    × Third-demand-met (args .numbers .now) (args .ends .now) (args .packed .now) (args .bookmark) (args .codes .now) (args .arguments .now) (args .replies .now) back
+met c back e =
+    let args = entry c .args in (
+      e,
+      rw e (third (args .numbers .now) (args .ends .now) (args .packed .now) (args .bookmark) (args .codes .now) (args .arguments .now) (args .replies .now)
+          (λ i. c .before .before .before .before .before .before .shared-slice-known .given i .fits) (λ i. c .before .before .shared-slice-known5 .given i .fits)),
+    )
+
+test-lists-requires : tie.Need-test-lists-requires
+test-lists-requires c κs = search needs
+
+refused-requires : tie.Need-refused-requires
+refused-requires c κs = search needs
+
+returns : tie.Need-returns
+returns c =
+    let tested = c .before .before in
+    let args = entry tested .args in
+    let n = tested .test-lists .ensures in
+    met tested _ (
+    handed (args .replies .now) (c .refused .ensures ∙ ap ran-refused n)
+    ∙ refuses-lists (args .bookmark) (args .codes .now) (args .arguments .now) (args .replies .now) (lists-of (args .numbers .now) (args .ends .now)) (read-packed (length (args .ends .now)) (args .packed .now)) (λ z. c .before .if1 .taken (n ∙ z))
+    ∙ is-run (args .bookmark) (args .codes .now) (args .arguments .now) (args .replies .now) (args .numbers .now) (args .ends .now) (args .packed .now) refl refl)
+
+read-expression-requires : tie.Need-read-expression-requires
+read-expression-requires c κs = search needs
+
+refused-requires-2 : tie.Need-refused-requires-2
+refused-requires-2 c κs = search needs
+
+returns-2 : tie.Need-returns-2
+returns-2 c =
+    let e = c .before .before .before in
+    let args = entry (e .before .before) .args in
+    let n = read-number _ (e .read-expression .ensures) in
+    met (e .before .before) _ (
+    handed (args .replies .now) (c .refused2 .ensures ∙ ap ran-refused n)
+    ∙ refuses-expression (args .bookmark) (args .codes .now) (args .arguments .now) (args .replies .now) _ _ (λ z. c .before .if2 .taken (n ∙ z))
+    ∙ is-run (args .bookmark) (args .codes .now) (args .arguments .now) (args .replies .now) (args .numbers .now) (args .ends .now) (args .packed .now) (lists-passed (args .numbers .now) (args .ends .now) (pass (e .before))) refl)
+
+refused-requires-3 : tie.Need-refused-requires-3
+refused-requires-3 c κs = search needs
+
+returns-3 : tie.Need-returns-3
+returns-3 c =
+    let e = c .before .before in
+    let args = entry (e .before .before .before .before) .args in
+    met (e .before .before .before .before) _ (
+    handed (args .replies .now) (c .refused3 .ensures)
+    ∙ refuses-bookmark (args .bookmark) (args .codes .now) (args .arguments .now) (args .replies .now) _ _ (c .before .if3 .taken)
+    ∙ passed e)
+
+refused-requires-4 : tie.Need-refused-requires-4
+refused-requires-4 c κs = search needs
+
+returns-4 : tie.Need-returns-4
+returns-4 c =
+    let e = c .before .before .before in
+    let args = entry (e .before .before .before .before) .args in
+    met (e .before .before .before .before) _ (
+    handed (args .replies .now) (c .refused4 .ensures)
+    ∙ refuses-unpaired (args .bookmark) (args .codes .now) (args .arguments .now) (args .replies .now) _ _ (c .before .before .if3 .left) (c .before .if4 .taken)
+    ∙ passed e)
+
+refused-requires-5 : tie.Need-refused-requires-5
+refused-requires-5 c κs = search needs
+
+returns-5 : tie.Need-returns-5
+returns-5 c =
+    let e = c .before .before .before .before in
+    let args = entry (e .before .before .before .before) .args in
+    met (e .before .before .before .before) _ (
+    handed (args .replies .now) (c .refused5 .ensures)
+    ∙ refuses-short (args .bookmark) (args .codes .now) (args .arguments .now) (args .replies .now) _ _ (c .before .before .before .if3 .left) (c .before .before .if4 .left) (c .before .if5 .taken)
+    ∙ passed e)
+
+node-ends-requires : tie.Need-node-ends-requires
+node-ends-requires c κs = search needs
+
+answer-requires : tie.Need-answer-requires
+answer-requires c κs =
+    let fits = c .before .before .before .before .before .before in
+    let e = fits .before .before .before in
+    let args = entry (e .before .before .before .before) .args in (
+      record { lists = lists-passed (args .numbers .now) (args .ends .now) (pass (e .before .before .before)); table = c .before .before .before .node-ends .ensures },
+      (
+        record { tree = read e .got; stands = stands e },
+        (fits .before .before .if3 .left, (fits .before .if4 .left, fits .if5 .left)),
+      ),
+    )
+
+same-length : tie.Need-same-length
+same-length c = search needs
+
+returns-6 : tie.Need-returns-6
+returns-6 c =
+    let answered = c .before .before in
+    let fits = answered .before .before .before .before .before .before .before in
+    let e = fits .before .before .before in
+    let args = entry (e .before .before .before .before) .args in
+    met (e .before .before .before .before) _ (
+    answered .answer .ensures (read e .got) (stands e)
+    ∙ accepts (args .bookmark) (args .codes .now) (args .arguments .now) (args .replies .now) _ _ (fits .before .before .if3 .left) (fits .before .if4 .left) (fits .if5 .left)
+    ∙ passed e)
+
+pub run-spec : {M : Type 1} → statement M
+run-spec =
+    tie.close
+    (tie.spec
+    test-lists-requires
+    refused-requires
+    returns
+    read-expression-requires
+    refused-requires-2
+    returns-2
+    refused-requires-3
+    returns-3
+    refused-requires-4
+    returns-4
+    refused-requires-5
+    returns-5
+    node-ends-requires
+    answer-requires
+    same-length
+    returns-6)

@@ -1,0 +1,267 @@
+// A run: the tests in 01's order, then the calls one after another, each with the floor, places and moves that the call before
+// it left.
+ghost use mathlib.Core.Path.{_≡_};
+ghost use Prim.Native.Nat.{_≤_, _<_, max};
+ghost use lib.ListN.{length};
+ghost use Rattle.model.specs.Lists.{top};
+ghost use Rattle.model.specs.Machine.{check, call, encode as encoded};
+ghost use Rattle.model.specs.Steps.{seek as seek-tree};
+ghost use Rattle.model.specs.Run.{drawn, step as step-of};
+ghost use Rattle.model.specs.Calls.{ran, run-call};
+ghost use Rattle.model.specs.Demands.{Third-demand-met};
+ghost use Rattle.reader.specs.Rows.{Standing, Ready};
+ghost use Rattle.reader.specs.Sought.{readers-of, Tallied};
+ghost use Rattle.engine.specs.States.{state-of, Steps-to, Answers};
+use expression::Form;
+use model::Ran;
+use model::Reply;
+use reader::Readers;
+
+// The highest floor, and so the highest bookmark: the first whole number that is no number any more.
+const TOP: u64 = 4294967296;
+
+// What one call leaves to the next, and its reply.
+struct Stepped {
+    reply: Reply,
+    floor: u64,
+    readers: Readers,
+}
+
+// An answer below 4,294,967,296 as a number.
+fn narrow(x: u64) -> u32
+    requires { ⌜ x < top ⌝ }
+    ensures { λ r. ⌜ r ≡ x ⌝ }
+{
+    x as u32
+}
+
+// The floor, raised to a number if it is lower.
+fn raised(floor: u64, to: u64) -> u64
+    ensures { λ r. ⌜ r ≡ max floor to ⌝ }
+{
+    if floor < to { to } else { floor }
+}
+
+// "reply the least member not below the floor; the floor becomes that member plus 1. If there is none: finished".
+fn draw(
+    numbers: &[u32],
+    ends: &[u32],
+    nodes: &[u8; 48],
+    behind: &[usize; 48],
+    start: Readers,
+    floor: u64,
+) -> Stepped
+    requires { ⌜ Ready (now numbers) (now ends) (now nodes) (now behind) ⌝ }
+    requires { ⌜ Standing (length (now ends)) (now nodes) 0 ⌝ }
+    requires { ⌜ (floor ≤ top) × Tallied start ⌝ }
+    ensures { λ r. ⌜ (r .floor ≤ top) × Tallied (r .readers) ⌝ }
+    ensures { λ r. ⌜ Steps-to (now (numbers .entry)) (now (ends .entry)) (now (nodes .entry)) (λ ls t. drawn (seek-tree ls t 0 floor (readers-of start))) r ⌝ }
+{
+    let a = seeks::seek(numbers, ends, nodes, behind, 0, start, floor);
+    let readers = a.readers;
+    let x = a.answer;
+    if x == reader::FINISHED {
+        return Stepped {
+            reply: Reply::Finished,
+            floor: x,
+            readers,
+        };
+    }
+    Stepped {
+        reply: Reply::Member(narrow(x)),
+        floor: x + 1,
+        readers,
+    }
+}
+
+// "Check with D below the floor moves nothing".
+fn ask(
+    numbers: &[u32],
+    ends: &[u32],
+    nodes: &[u8; 48],
+    behind: &[usize; 48],
+    start: Readers,
+    floor: u64,
+    d: u32,
+) -> Stepped
+    requires { ⌜ Ready (now numbers) (now ends) (now nodes) (now behind) ⌝ }
+    requires { ⌜ Standing (length (now ends)) (now nodes) 0 ⌝ }
+    requires { ⌜ (floor ≤ top) × Tallied start ⌝ }
+    ensures { λ r. ⌜ (r .floor ≤ top) × Tallied (r .readers) ⌝ }
+    ensures { λ r. ⌜ Steps-to (now (numbers .entry)) (now (ends .entry)) (now (nodes .entry)) (λ ls t. step-of ls t (state-of floor start) (check d)) r ⌝ }
+{
+    if reader::wide(d) < floor {
+        return Stepped {
+            reply: Reply::No,
+            floor,
+            readers: start,
+        };
+    }
+    let a = checks::check(numbers, ends, nodes, behind, 0, start, d);
+    let readers = a.readers;
+    if a.yes {
+        return Stepped {
+            reply: Reply::Yes,
+            floor: reader::wide(d),
+            readers,
+        };
+    }
+    Stepped {
+        reply: Reply::No,
+        floor: reader::wide(d),
+        readers,
+    }
+}
+
+// One call: "Codes 0 to 2 seek the raised floor"; "Any other code: unknown, nothing changes".
+fn step(
+    numbers: &[u32],
+    ends: &[u32],
+    nodes: &[u8; 48],
+    behind: &[usize; 48],
+    start: Readers,
+    floor: u64,
+    code: u8,
+    d: u32,
+) -> Stepped
+    requires { ⌜ Ready (now numbers) (now ends) (now nodes) (now behind) ⌝ }
+    requires { ⌜ Standing (length (now ends)) (now nodes) 0 ⌝ }
+    requires { ⌜ (floor ≤ top) × Tallied start ⌝ }
+    ensures { λ r. ⌜ (r .floor ≤ top) × Tallied (r .readers) ⌝ }
+    ensures { λ r. ⌜ Steps-to (now (numbers .entry)) (now (ends .entry)) (now (nodes .entry)) (λ ls t. step-of ls t (state-of floor start) (call code d)) r ⌝ }
+{
+    match code {
+        0 => draw(numbers, ends, nodes, behind, start, floor),
+        1 => draw(
+            numbers,
+            ends,
+            nodes,
+            behind,
+            start,
+            raised(floor, reader::wide(d)),
+        ),
+        2 => draw(
+            numbers,
+            ends,
+            nodes,
+            behind,
+            start,
+            raised(floor, reader::wide(d) + 1),
+        ),
+        3 => ask(numbers, ends, nodes, behind, start, floor, d),
+        _ => Stepped {
+            reply: Reply::Unknown,
+            floor,
+            readers: start,
+        },
+    }
+}
+
+// A reply as it stands in the lent row.
+fn encode(reply: Reply) -> u64
+    ensures { λ r. ⌜ r ≡ encoded reply ⌝ }
+{
+    match reply {
+        Reply::Member(x) => reader::wide(x),
+        Reply::No => 4294967296,
+        Reply::Yes => 4294967297,
+        Reply::Finished => 4294967298,
+        Reply::Unknown => 4294967299,
+    }
+}
+
+// The calls one after another, from the bookmark as floor, every reader at place 0 and no moves; one reply for each.
+fn answer(
+    numbers: &[u32],
+    ends: &[u32],
+    nodes: &[u8; 48],
+    behind: &[usize; 48],
+    bookmark: u64,
+    codes: &[u8],
+    arguments: &[u32],
+    replies: &mut [u64],
+) -> Ran
+    requires { ⌜ Ready (now numbers) (now ends) (now nodes) (now behind) ⌝ }
+    requires { ⌜ Standing (length (now ends)) (now nodes) 0 ⌝ }
+    requires { ⌜ bookmark ≤ top ⌝ }
+    requires { ⌜ (length (now codes) ≡ length (now arguments)) × (length (now codes) ≤ length (now replies)) ⌝ }
+    ensures { λ r. ⌜ Answers (now (numbers .entry)) (now (ends .entry)) (now (nodes .entry)) bookmark (now (codes .entry)) (now (arguments .entry)) (now (replies .entry)) (ran r (now (replies .exit))) ⌝ }
+{
+    let mut readers = Readers {
+        places: [0u16; 48],
+        moves: 0,
+    };
+    let mut floor = bookmark;
+    let mut i = 0;
+    while i < codes.len() {
+        let s = step(
+            numbers,
+            ends,
+            nodes,
+            behind,
+            readers,
+            floor,
+            codes[i],
+            arguments[i],
+        );
+        let reply = s.reply;
+        replies[i] = encode(reply);
+        floor = s.floor;
+        readers = s.readers;
+        i += 1;
+    }
+    let places = readers.places;
+    Ran {
+        number: 0,
+        moves: readers.moves,
+        places,
+        bookmark: floor,
+    }
+}
+
+// A run over lent lists and a packed expression, from a bookmark: one reply for each call in the lent row, and the moves, places
+// and bookmark after the last; or a refusal, by "lists (7, 10, 11, each over all lists before the next), the packed expression
+// (1 to 5), bookmark (12), row lengths (13)". The first promise is the whole call, for all arguments; the second is demand 3,
+// of what it sends back.
+pub fn run(
+    numbers: &[u32],
+    ends: &[u32],
+    packed: &[u8],
+    bookmark: u64,
+    codes: &[u8],
+    arguments: &[u32],
+    replies: &mut [u64],
+) -> Ran
+    ensures call { λ r. ⌜ ran r (now (replies .exit)) ≡ run-call (now (numbers .entry)) (now (ends .entry)) (now (packed .entry)) bookmark (now (codes .entry)) (now (arguments .entry)) (now (replies .entry)) ⌝ }
+    ensures demand { λ r. ⌜ Third-demand-met (now (numbers .entry)) (now (ends .entry)) (now (packed .entry)) bookmark (now (codes .entry)) (now (arguments .entry)) (now (replies .entry)) (ran r (now (replies .exit))) ⌝ }
+{
+    let number = lists::test_lists(numbers, ends);
+    if number != 0 {
+        return Ran::refused(number);
+    }
+    let read = expression::read_expression(Form::Packed, packed, ends.len());
+    if read.number != 0 {
+        return Ran::refused(read.number);
+    }
+    if TOP < bookmark {
+        return Ran::refused(12);
+    }
+    if codes.len() != arguments.len() {
+        return Ran::refused(13);
+    }
+    if replies.len() < codes.len() {
+        return Ran::refused(13);
+    }
+    let nodes = read.nodes;
+    let behind = reader::node_ends(&nodes);
+    answer(
+        numbers,
+        ends,
+        &nodes,
+        &behind,
+        bookmark,
+        codes,
+        arguments,
+        replies,
+    )
+}
