@@ -1,13 +1,13 @@
 -- `run` meets its contract: test by test, in the order of `Run.run-of`; behind the last the tree that was read stands at the
 -- row's first node, so that `answer` sends back what the definition does. Assumes nothing.
-use mathlib.Core.Path.{_≡_, refl, sym, ap, _∙_}
+use mathlib.Core.Path.{_≡_, sym, ap, _∙_}
 use mathlib.Core.List.{List}
 use Prim.Native.Nat.{ℕ}
 use borrow.Author.Needs.{needs}
 use lib.ListN.{length}
 use Rattle.model.specs.declared.Ran.{Ran}
-use Rattle.model.specs.Outcome.{accepted, number-of, Sent}
-use Rattle.model.specs.Lists.{lists-from, lists-of}
+use Rattle.model.specs.Outcome.{number-of, Sent}
+use Rattle.model.specs.Lists.{lists-of}
 use Rattle.model.specs.Forms.{read-packed}
 use Rattle.model.specs.Calls.{ran, ran-refused, run-call}
 use Rattle.model.specs.Demands.{Third-demand-met}
@@ -15,7 +15,7 @@ use Rattle.model.proofs.DemandThree.{third}
 use Rattle.model.proofs.Told.{Success-of}
 use Rattle.lists.proofs.Spans.{passed as lists-passed}
 use Rattle.reader.specs.Rows.{Stands}
-use Rattle.engine.proofs.Whole.{expression-passes, read-number, read-stands, whole, refuses-lists, refuses-expression, refuses-bookmark, refuses-unpaired, refuses-short, accepts, is-run}
+use Rattle.engine.proofs.Whole.{refused-by, expression-passes, read-number, read-stands, refuses-lists, refuses-expression, refuses-bookmark, refuses-unpaired, refuses-short, accepts}
 use Rattle.engine.proofs.run.Statement.{statement}
 use Rattle.engine.proofs.run.Tie as tie
 
@@ -44,15 +44,6 @@ stands c =
 handed : (lent : List ℕ) {r : Ran} {n : ℕ} → r ≡ ran-refused n → ran r lent ≡ ran (ran-refused n) lent
 handed lent e = ap (λ (x : Ran). ran x lent) e
 
--- what comes behind both is the run's
-passed : (c : tie.Else2) → let args = entry (c .before .before .before .before) .args in
-    whole (args .bookmark) (args .codes .now) (args .arguments .now) (args .replies .now) (accepted (lists-from (args .numbers .now) 0 (args .ends .now))) (accepted (read c .got))
-    ≡ run-call (args .numbers .now) (args .ends .now) (args .packed .now) (args .bookmark) (args .codes .now) (args .arguments .now) (args .replies .now)
-passed c =
-    let args = entry (c .before .before .before .before) .args in
-    is-run (args .bookmark) (args .codes .now) (args .arguments .now) (args .replies .now) (args .numbers .now) (args .ends .now) (args .packed .now)
-    (lists-passed (args .numbers .now) (args .ends .now) (pass (c .before .before .before))) (read c .is)
-
 -- the call is the definition's, and what is sent back meets demand 3
 met : (c : tie.After-test-lists) (back : Sent) → let args = entry c .args in
     back ≡ run-call (args .numbers .now) (args .ends .now) (args .packed .now) (args .bookmark) (args .codes .now) (args .arguments .now) (args .replies .now)
@@ -78,8 +69,7 @@ returns c =
     let n = tested .test-lists .ensures in
     met tested _ (
     handed (args .replies .now) (c .refused .ensures ∙ ap ran-refused n)
-    ∙ refuses-lists (args .bookmark) (args .codes .now) (args .arguments .now) (args .replies .now) (lists-of (args .numbers .now) (args .ends .now)) (read-packed (length (args .ends .now)) (args .packed .now)) (λ z. c .before .if1 .taken (n ∙ z))
-    ∙ is-run (args .bookmark) (args .codes .now) (args .arguments .now) (args .replies .now) (args .numbers .now) (args .ends .now) (args .packed .now) refl refl)
+    ∙ refuses-lists _ _ _ _ _ _ _ _ (refused-by (lists-of (args .numbers .now) (args .ends .now)) (λ z. c .before .if1 .taken (n ∙ z))))
 
 read-expression-requires : tie.Need-read-expression-requires
 read-expression-requires c κs = search needs
@@ -94,8 +84,7 @@ returns-2 c =
     let n = read-number _ (e .read-expression .ensures) in
     met (e .before .before) _ (
     handed (args .replies .now) (c .refused2 .ensures ∙ ap ran-refused n)
-    ∙ refuses-expression (args .bookmark) (args .codes .now) (args .arguments .now) (args .replies .now) _ _ (λ z. c .before .if2 .taken (n ∙ z))
-    ∙ is-run (args .bookmark) (args .codes .now) (args .arguments .now) (args .replies .now) (args .numbers .now) (args .ends .now) (args .packed .now) (lists-passed (args .numbers .now) (args .ends .now) (pass (e .before))) refl)
+    ∙ refuses-expression _ _ _ _ _ _ _ _ (lists-passed _ _ (pass (e .before))) _ (refused-by (read-packed (length (args .ends .now)) (args .packed .now)) (λ z. c .before .if2 .taken (n ∙ z))))
 
 refused-requires-3 : tie.Need-refused-requires-3
 refused-requires-3 c κs = search needs
@@ -103,11 +92,10 @@ refused-requires-3 c κs = search needs
 returns-3 : tie.Need-returns-3
 returns-3 c =
     let e = c .before .before in
-    let args = entry (e .before .before .before .before) .args in
-    met (e .before .before .before .before) _ (
-    handed (args .replies .now) (c .refused3 .ensures)
-    ∙ refuses-bookmark (args .bookmark) (args .codes .now) (args .arguments .now) (args .replies .now) _ _ (c .before .if3 .taken)
-    ∙ passed e)
+    let tested = e .before .before .before .before in
+    met tested _ (
+    handed (entry tested .args .replies .now) (c .refused3 .ensures)
+    ∙ refuses-bookmark _ _ _ _ _ _ _ _ (lists-passed _ _ (pass (e .before .before .before))) _ (read e .is) (c .before .if3 .taken))
 
 refused-requires-4 : tie.Need-refused-requires-4
 refused-requires-4 c κs = search needs
@@ -115,11 +103,10 @@ refused-requires-4 c κs = search needs
 returns-4 : tie.Need-returns-4
 returns-4 c =
     let e = c .before .before .before in
-    let args = entry (e .before .before .before .before) .args in
-    met (e .before .before .before .before) _ (
-    handed (args .replies .now) (c .refused4 .ensures)
-    ∙ refuses-unpaired (args .bookmark) (args .codes .now) (args .arguments .now) (args .replies .now) _ _ (c .before .before .if3 .left) (c .before .if4 .taken)
-    ∙ passed e)
+    let tested = e .before .before .before .before in
+    met tested _ (
+    handed (entry tested .args .replies .now) (c .refused4 .ensures)
+    ∙ refuses-unpaired _ _ _ _ _ _ _ _ (lists-passed _ _ (pass (e .before .before .before))) _ (read e .is) (c .before .before .if3 .left) (c .before .if4 .taken))
 
 refused-requires-5 : tie.Need-refused-requires-5
 refused-requires-5 c κs = search needs
@@ -127,11 +114,10 @@ refused-requires-5 c κs = search needs
 returns-5 : tie.Need-returns-5
 returns-5 c =
     let e = c .before .before .before .before in
-    let args = entry (e .before .before .before .before) .args in
-    met (e .before .before .before .before) _ (
-    handed (args .replies .now) (c .refused5 .ensures)
-    ∙ refuses-short (args .bookmark) (args .codes .now) (args .arguments .now) (args .replies .now) _ _ (c .before .before .before .if3 .left) (c .before .before .if4 .left) (c .before .if5 .taken)
-    ∙ passed e)
+    let tested = e .before .before .before .before in
+    met tested _ (
+    handed (entry tested .args .replies .now) (c .refused5 .ensures)
+    ∙ refuses-short _ _ _ _ _ _ _ _ (lists-passed _ _ (pass (e .before .before .before))) _ (read e .is) (c .before .before .before .if3 .left) (c .before .before .if4 .left) (c .before .if5 .taken))
 
 node-ends-requires : tie.Need-node-ends-requires
 node-ends-requires c κs = search needs
@@ -156,11 +142,9 @@ returns-6 c =
     let answered = c .before .before in
     let fits = answered .before .before .before .before .before .before .before in
     let e = fits .before .before .before in
-    let args = entry (e .before .before .before .before) .args in
     met (e .before .before .before .before) _ (
     answered .answer .ensures (read e .got) (stands e)
-    ∙ accepts (args .bookmark) (args .codes .now) (args .arguments .now) (args .replies .now) _ _ (fits .before .before .if3 .left) (fits .before .if4 .left) (fits .if5 .left)
-    ∙ passed e)
+    ∙ accepts _ _ _ _ _ _ _ _ (lists-passed _ _ (pass (e .before .before .before))) _ (read e .is) (fits .before .before .if3 .left) (fits .before .if4 .left) (fits .if5 .left))
 
 pub run-spec : {M : Type 1} → statement M
 run-spec =
