@@ -2,19 +2,18 @@
 use mathlib.Core.Path.{_≡_, ap, _∙_}
 use mathlib.Core.Bool.{Bool, true, false, not}
 use mathlib.Core.List.{List, []}
-use Prim.Native.Nat.{ℕ, _+_, _<_}
-use native.Mathlib.Omega.{arith}
+use Prim.Native.Nat.{ℕ, _+_}
 use lib.ListN.{length, getD}
 use Rattle.model.specs.declared.Node.{Node}
 use Rattle.model.specs.declared.Node.the-variants.{Leaf, Difference, Union, Intersection}
-use Rattle.model.specs.Outcome.{refused, accepted}
+use Rattle.model.specs.Outcome.{accepted}
 use Rattle.model.specs.Lists.{lists-from}
 use Rattle.model.specs.Expression.{Tree}
 use Rattle.model.specs.Forms.{node-of}
 use Rattle.model.specs.Steps.{Readers, Checked, says, read, is-at, turned, on-yes, check-node}
 use Rattle.expression.specs.Reading.{members}
-use Rattle.reader.specs.Rows.{Standing, Standing-each, Ready}
-use Rattle.reader.proofs.Standing.{kind, below, many-below, leaf-is, union-is, intersection-is, root, root-is, listed}
+use Rattle.reader.specs.Rows.{Ready}
+use Rattle.reader.proofs.Standing.{kind, below, many-below, leaf-is, union-is, intersection-is, root-is}
 use Rattle.reader.proofs.Members.{first-is, below-at, pair}
 use Rattle.checks.specs.Telling.{check-until}
 use Rattle.checks.proofs.Until.{until-operator, Says, Say}
@@ -33,28 +32,6 @@ until-below true ls t n i d rs e = let u = union-is t n e in rw (u .is) (until-o
 until-below false ls t n i d rs e = let u = intersection-is t n e in rw (u .is) (until-operator ls false (u .trees) i d rs)
 
 module _ {numbers ends nodes behind : List ℕ} (ready : Ready numbers ends nodes behind) (i : ℕ) where
-  -- ---- what stands below the node
-
-  pub not-unknown : (n : ℕ) → node-of (getD nodes i 0) ≡ refused n → Standing (length ends) nodes i → ⊥
-  not-unknown n e s = let r = root (length ends) nodes (s .tree) i (s .stands) in let z : _≡_ {A = ℕ} 0 1 = cc in omega arith
-
-  pub list-there : (k : ℕ) → node-of (getD nodes i 0) ≡ accepted (Leaf k) → Standing (length ends) nodes i → k < length ends
-  list-there k e s = listed (length ends) nodes (s .tree) i k (s .stands) e
-
-  pub members-stand : (b : Bool) (n : ℕ) → node-of (getD nodes i 0) ≡ accepted (joins b n) → Standing (length ends) nodes i → Standing-each (length ends) nodes (i + 1) n
-  members-stand b n e s = record {
-    trees = below (s .tree);
-    stand = below-at ready i (s .tree) (s .stands);
-    many = many b (s .tree) n (root-is (length ends) nodes (s .tree) i (joins b n) (s .stands) e);
-  }
-
-  module _ (e : node-of (getD nodes i 0) ≡ accepted Difference) (s : Standing (length ends) nodes i) where
-    pub first-stands : Standing (length ends) nodes (i + 1)
-    first-stands = let p = pair ready i e (s .tree) (s .stands) in record { tree = p .first; stands = p .first-at }
-
-    pub second-stands : Standing (length ends) nodes (getD behind (i + 1) 0)
-    second-stands = let p = pair ready i e (s .tree) (s .stands) in record { tree = p .second; stands = p .second-at }
-
   -- ---- what its check says
   module _ (d : ℕ) (rs : Readers) where
     pub of-list : (k : ℕ) (c : Checked) → node-of (getD nodes i 0) ≡ accepted (Leaf k)

@@ -22,13 +22,6 @@ pub struct Checked {
     pub readers: Readers,
 }
 
-// A list's number as an index.
-fn index(k: u8) -> usize
-    ensures { λ r. ⌜ r ≡ k ⌝ }
-{
-    k as usize
-}
-
 // "A reader seeks D, yes if it answers D".
 fn check_list(
     numbers: &[u32],
@@ -77,7 +70,7 @@ pub fn check(
         };
     };
     match known {
-        Node::Leaf(k) => check_list(numbers, ends, index(k), node, start, d),
+        Node::Leaf(k) => check_list(numbers, ends, expression::wide(k), node, start, d),
         Node::Difference => check_difference(numbers, ends, nodes, behind, node, start, d),
         Node::Union(n) => check_members(numbers, ends, nodes, behind, node + 1, n, true, start, d),
         Node::Intersection(n) => check_members(

@@ -3,7 +3,6 @@
 use mathlib.Core.Path.{_≡_, refl, ap, _∙_}
 use mathlib.Core.List.{List}
 use Prim.Native.Nat.{ℕ, _≤_, _<_}
-use native.Mathlib.Omega.{arith}
 use lib.ListN.{length, length-map}
 use borrow.Author.Tests.{le-leb, lt-leb, eq-eqb, ne-eqb}
 use Rattle.model.specs.Outcome.{Outcome, refused, accepted, number-of, Sent, over, sent}
@@ -15,7 +14,7 @@ use Rattle.model.specs.Run.{run, source-of, run-of}
 use Rattle.model.specs.Calls.{ran, ran-refused, run-call}
 use Rattle.model.specs.Demands.{ran-all}
 use Rattle.model.proofs.Accepted.{lists-accepted, packed-reads}
-use Rattle.model.proofs.Told.{Told, Success-of, packed-told}
+use Rattle.model.proofs.Told.{Success-of, zero-accepts, packed-told}
 use Rattle.lists.proofs.Spans.{counts, passed}
 use Rattle.expression.specs.declared.Expression.{Expression}
 use Rattle.expression.specs.Reading.{expression-of}
@@ -28,11 +27,6 @@ pub refused-by : {A : Type 0} (o : Outcome A) → (number-of o ≡ 0 → ⊥) �
 unfolding number-of
 refused-by (refused n) h = refl
 refused-by (accepted a) h = absurd (h refl)
-
-zero-accepts : {A : Type 0} (o : Outcome A) → Told o → number-of o ≡ 0 → Success-of o
-unfolding number-of
-zero-accepts (refused n) t e = absurd (omega (arith, t .never n refl))
-zero-accepts (accepted a) t e = record { got = a; is = refl }
 
 pub expression-passes : (lists : ℕ) (packed : List ℕ) → number-of (read-packed lists packed) ≡ 0 → Success-of (read-packed lists packed)
 expression-passes lists packed e = zero-accepts (read-packed lists packed) (packed-told lists packed) e

@@ -139,7 +139,7 @@ fn number_of(step: Step) -> u32
 }
 
 // A byte as a number of more bits.
-fn wide(b: u8) -> usize
+pub fn wide(b: u8) -> usize
     ensures { λ r. ⌜ r ≡ b ⌝ }
 {
     b as usize

@@ -1,16 +1,17 @@
 -- What the three tests let through, and where list k's part stands: inside the numbers. Assumes nothing.
 use mathlib.Core.Path.{_≡_, refl, ap}
-use mathlib.Core.Bool.{Bool, true, false}
+use mathlib.Core.Bool.{true}
 use mathlib.Core.List.{List, [], _∷_}
 use Prim.Native.Nat.{ℕ, zero, suc, _+_, _-_, _≤_, _<_}
 use native.Mathlib.Omega.{arith}
 use borrow.Author.Tests.{leb-true, lt-ltb}
 use lib.Dec.{leb}
 use lib.ListN.{length, getD, drop, length-take, length-drop}
-use Rattle.model.specs.Outcome.{Outcome, refused, accepted, _>>_, require, number-of}
-use Rattle.model.specs.Lists.{all-ascending, part, lists-from, count-holds, ends-hold, lists-of, or-empty, span-of}
+use Rattle.model.specs.Outcome.{Outcome, refused, accepted, number-of}
+use Rattle.model.specs.Lists.{part, lists-from, count-holds, ends-hold, lists-of, or-empty, span-of}
 use Rattle.model.proofs.Order.{and-true, split}
 use Rattle.model.proofs.Accepted.{lists-accepted}
+use Rattle.model.proofs.Told.{zero-accepts, lists-told}
 use Rattle.model.proofs.Laid.{lists-length, part-missing, part-refused}
 use Rattle.lists.proofs.Ends.{hold-next}
 
@@ -47,17 +48,11 @@ runs numbers start (stop ∷ ends) (suc k) e lt =
     let r = runs numbers stop ends k (n .rest) (omega arith) in
     record { order = r .order; inside = r .inside; few = r .few; many = r .many; is = r .is }
 
--- number 0 is acceptance: each test has a number of its own
+-- number 0 is acceptance
 pub passed : (numbers ends : List ℕ) → number-of (lists-of numbers ends) ≡ 0 → lists-of numbers ends ≡ accepted (lists-from numbers 0 ends)
-unfolding lists-of number-of
-passed numbers ends h = go (count-holds (length ends)) (ends-hold (length numbers) 0 ends) (all-ascending (lists-from numbers 0 ends)) h
-  where
-    go : (a b c : Bool) → number-of (require 7 a >> (require 10 b >> (require 11 c >> accepted (lists-from numbers 0 ends)))) ≡ 0
-        → (require 7 a >> (require 10 b >> (require 11 c >> accepted (lists-from numbers 0 ends)))) ≡ accepted (lists-from numbers 0 ends)
-    go true true true h = refl
-    go true true false h = absurd (omega arith)
-    go true false c h = absurd (omega arith)
-    go false b c h = absurd (omega arith)
+passed numbers ends h =
+    let s = zero-accepts (lists-of numbers ends) (lists-told numbers ends) h in
+    rw (lists-accepted numbers ends (s .got) (s .is) .are) (s .is)
 
 module _ (numbers ends : List ℕ) (k : ℕ) where
   -- so it does where no test refuses

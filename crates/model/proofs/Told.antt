@@ -1,5 +1,5 @@
 -- A refusal's number is never 0, so a call that hands back 0 has accepted: by the lines of each `do` block. Assumes nothing.
-use mathlib.Core.Path.{_≡_, refl, sym}
+use mathlib.Core.Path.{_≡_, refl, sym, _∙_}
 use mathlib.Core.Bool.{Bool, true, false, _&&_, cond}
 use mathlib.Core.List.{List, [], _∷_}
 use Prim.Native.Nat.{ℕ, zero, suc, _+_, _-_, _≤_}
@@ -8,7 +8,7 @@ use lib.Dec.{ltb, leb, eqb}
 use lib.ListN.{length}
 use Rattle.model.specs.declared.Node.{Node}
 use Rattle.model.specs.declared.Node.the-variants.{Leaf, Difference, Union, Intersection}
-use Rattle.model.specs.Outcome.{Outcome, refused, accepted, _>>=_, _>>_, require, Success, sent}
+use Rattle.model.specs.Outcome.{Outcome, refused, accepted, _>>=_, _>>_, require, number-of, Success, sent}
 use Rattle.model.specs.Lists.{top, all-ascending, lists-from, count-holds, ends-hold, lists-of}
 use Rattle.model.specs.Expression.{Tree}
 use Rattle.model.specs.Fields.{bits, take-field, only-fill}
@@ -38,10 +38,18 @@ pub record Success-of {A : Type 0} (o : Outcome A) : Type 0 where
   pub got : A
   pub is : o ≡ accepted got
 
+pub zero-accepts : {A : Type 0} (o : Outcome A) → Told o → number-of o ≡ 0 → Success-of o
+unfolding number-of
+zero-accepts (refused n) t e = absurd (omega (arith, t .never n refl))
+zero-accepts (accepted a) t e = record { got = a; is = refl }
+
+sent-number : (parts : ℕ) (rows : List (List ℕ)) (o : Outcome Success) → number-of o ≡ sent parts rows o .number
+unfolding number-of sent
+sent-number parts rows (refused n) = refl
+sent-number parts rows (accepted s) = refl
+
 pub succeeded : (parts : ℕ) (rows : List (List ℕ)) (o : Outcome Success) → Told o → sent parts rows o .number ≡ 0 → Success-of o
-unfolding sent
-succeeded parts rows (refused n) t e = absurd (omega (arith, t .never n refl))
-succeeded parts rows (accepted s) t e = record { got = s; is = refl }
+succeeded parts rows o t e = zero-accepts o t (sent-number parts rows o ∙ e)
 
 pub lists-told : (numbers ends : List ℕ) → Told (lists-of numbers ends)
 unfolding lists-of

@@ -4,12 +4,15 @@ use mathlib.Core.List.{List, [], _∷_}
 use Prim.Native.Nat.{ℕ, _+_, _-_, _≤_, _<_}
 use native.Mathlib.Omega.{arith}
 use lib.ListN.{length, getD}
-use Rattle.model.specs.declared.Node.the-variants.{Difference}
-use Rattle.model.specs.Outcome.{accepted}
+use Rattle.model.specs.declared.Node.{Node}
+use Rattle.model.specs.declared.Node.the-variants.{Leaf, Difference}
+use Rattle.model.specs.Outcome.{refused, accepted}
 use Rattle.model.specs.Expression.{Tree, difference, size}
 use Rattle.model.specs.Forms.{node-of}
+use Rattle.model.proofs.Accepted.{never-accepted}
+use Rattle.expression.specs.Reading.{members}
 use Rattle.reader.specs.Rows.{Stands, Stand-each, Standing, Standing-each, Behind, Ready}
-use Rattle.reader.proofs.Standing.{below, size-pos, difference-is, there, root-is, below-stand}
+use Rattle.reader.proofs.Standing.{below, many-below, size-pos, difference-is, there, root, root-is, listed, below-stand}
 
 module _ {numbers ends nodes behind : List ℕ} (ready : Ready numbers ends nodes behind) where
   module _ (i : ℕ) where
@@ -20,6 +23,20 @@ module _ {numbers ends nodes behind : List ℕ} (ready : Ready numbers ends node
 
     pub below-at : (t : Tree) → Stands (length ends) nodes t i → Stand-each (length ends) nodes (below t) (i + 1)
     below-at t s = subst (Stand-each (length ends) nodes (below t)) first-is (below-stand (length ends) nodes t i s)
+
+    -- a node at which a tree stands is known, a list at it is there, and it has as many trees below it as it says
+    pub not-unknown : (n : ℕ) → node-of (getD nodes i 0) ≡ refused n → Standing (length ends) nodes i → ⊥
+    not-unknown n e s = never-accepted (sym e ∙ root (length ends) nodes (s .tree) i (s .stands))
+
+    pub list-there : (k : ℕ) → node-of (getD nodes i 0) ≡ accepted (Leaf k) → Standing (length ends) nodes i → k < length ends
+    list-there k e s = listed (length ends) nodes (s .tree) i k (s .stands) e
+
+    pub members-stand : (n : Node) → node-of (getD nodes i 0) ≡ accepted n → Standing (length ends) nodes i → Standing-each (length ends) nodes (i + 1) (members n)
+    members-stand n e s = record {
+      trees = below (s .tree);
+      stand = below-at (s .tree) (s .stands);
+      many = many-below (s .tree) ∙ ap members (root-is (length ends) nodes (s .tree) i n (s .stands) e);
+    }
 
     -- the first member tree, and the others from the node that the table has behind it
     pub record Split (first : Tree) (others : List Tree) : Type 0 where
@@ -49,6 +66,13 @@ module _ {numbers ends nodes behind : List ℕ} (ready : Ready numbers ends node
         let d = difference-is t (root-is (length ends) nodes t i Difference s e) in
         let p = split t (d .first) (d .second ∷ []) s (ap below (d .is)) in
         record { first = d .first; second = d .second; is = d .is; first-at = p .first-at; second-at = p .others-at .0; after = p .after }
+
+    module _ (e : node-of (getD nodes i 0) ≡ accepted Difference) (s : Standing (length ends) nodes i) where
+      pub first-stands : Standing (length ends) nodes (i + 1)
+      first-stands = let p = pair e (s .tree) (s .stands) in record { tree = p .first; stands = p .first-at }
+
+      pub second-stands : Standing (length ends) nodes (getD behind (i + 1) 0)
+      second-stands = let p = pair e (s .tree) (s .stands) in record { tree = p .second; stands = p .second-at }
 
     -- ---- a tree at the node i is one of the 48 nodes, and ends behind it
     module _ (s : Standing (length ends) nodes i) where

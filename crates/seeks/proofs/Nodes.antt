@@ -5,7 +5,6 @@ use Prim.Native.Nat.{ℕ, _+_, _-_, _≤_, _<_, min}
 use native.Mathlib.Omega.{arith}
 use native.Mathlib.Numerals.{add-one}
 use lib.ListN.{length, getD}
-use Rattle.model.specs.declared.Node.{Node}
 use Rattle.model.specs.declared.Node.the-variants.{Leaf, Union, Intersection}
 use Rattle.model.specs.Outcome.{accepted}
 use Rattle.model.specs.Lists.{top, Numbers, lists-from}
@@ -16,12 +15,12 @@ use Rattle.model.proofs.Order.{Up}
 use Rattle.model.proofs.Accepted.{accepted-up}
 use Rattle.model.proofs.Fuel.{differ-with, intersect-with, seek-difference}
 use Rattle.expression.specs.Reading.{members}
-use Rattle.reader.specs.Rows.{Stands, Standing-each, Behind, Ready}
+use Rattle.reader.specs.Rows.{Stands, Behind, Ready}
 use Rattle.reader.specs.Sought.{found}
 use Rattle.reader.proofs.Standing.{kind, each, below, many-below, leaf-is, union-is, intersection-is, root-is, inside}
 use Rattle.reader.proofs.Members.{first-is, below-at, Split, split, Pair, Comes, comes-last, comes-now, comes-on}
 use Rattle.seeks.specs.Finding.{seek-each}
-use Rattle.seeks.proofs.Turns.{differ-end, differ-stop, differ-turn, intersect-end, intersect-none, intersect-stop, intersect-turn, head, tail, each-is, unite-from, unite-end, unite-turn, unite-start, each-end, each-stop, each-turn, intersection-step}
+use Rattle.seeks.proofs.Turns.{first-ended, differ-stop, differ-turn, intersect-none, intersect-stop, intersect-turn, head, tail, each-is, unite-from, unite-end, unite-turn, unite-start, each-end, each-stop, each-turn, intersection-step}
 
 -- what the loops over member nodes go through: a union's with the least answer so far, and those after an intersection's first
 abbrev pub uniting : List (List ℕ) → ℕ → List Tree → ℕ → ℕ × Readers → Found
@@ -67,7 +66,7 @@ module _ (numbers ends nodes behind : List ℕ) (n : Numbers numbers) (r : Ready
   -- how a turn of the loop ends: nothing in the first; the first's answer holds; once more from behind it
   module _ (t : Tree) (p : Pair r node t) (s : At t node) (e : ℕ) (rs : Readers) (low : e ≤ top) (long : length (rs .places) ≡ 48) (x : ℕ) (rs₁ : Readers) (a : found x rs₁ ≡ first-seek (p .first) e rs) where
     pub both-ended : top ≤ x → found x rs₁ ≡ seek ls t node e rs
-    both-ended h = sym (both t p s e rs low long ∙ differ-end (whole t) (first-seek (p .first)) (second-seek (p .second)) e rs x rs₁ a h)
+    both-ended h = sym (both t p s e rs low long ∙ first-ended (first-seek (p .first)) e rs x rs₁ a _ h)
 
     module _ (xt : x < top) (y : ℕ) (rs₂ : Readers) (c : found y rs₂ ≡ second-seek (p .second) x rs₁) where
       pub both-stopped : (y ≡ x → ⊥) → found x rs₂ ≡ seek ls t node e rs
@@ -108,7 +107,7 @@ module _ (numbers ends nodes behind : List ℕ) (n : Numbers numbers) (r : Ready
   -- how a turn of the loop ends: nothing in the first, or in the others; they answer the first's; once more from a higher candidate
   module _ (count : ℕ) (t : Tree) (v : Every t count) (e : ℕ) (rs : Readers) (low : e ≤ top) (long : length (rs .places) ≡ 48) (x : ℕ) (rs₁ : Readers) (a : found x rs₁ ≡ first-seek (v .first) e rs) where
     pub every-ended : top ≤ x → found x rs₁ ≡ seek ls t node e rs
-    every-ended h = sym (v .step e rs low long ∙ intersect-end (whole t) (first-seek (v .first)) (others-seek (v .others)) e rs x rs₁ a h)
+    every-ended h = sym (v .step e rs low long ∙ first-ended (first-seek (v .first)) e rs x rs₁ a _ h)
 
     module _ (xt : x < top) (y : ℕ) (rs₂ : Readers) (c : found y rs₂ ≡ others-seek (v .others) x rs₁) where
       pub every-none : top ≤ y → found y rs₂ ≡ seek ls t node e rs
@@ -134,10 +133,6 @@ module _ (numbers ends nodes behind : List ℕ) (n : Numbers numbers) (r : Ready
       let root = root-is (length ends) nodes t node (Union count) s k in
       let d = union-is t count root in
       unite-of count t (d .trees) (d .is) root s
-
-  -- as many trees as member nodes
-  pub members-stand : (t : Tree) → At t node → (n : Node) → node-of (getD nodes node 0) ≡ accepted n → Standing-each (length ends) nodes (node + 1) (members n)
-  members-stand t s n k = record { trees = below t; stand = below-at r node t s; many = many-below t ∙ ap members (root-is (length ends) nodes t node n s k) }
 
 -- ---- a list
 pub read-is : (numbers ends nodes : List ℕ) (node k : ℕ) → node-of (getD nodes node 0) ≡ accepted (Leaf k) → (e : ℕ) (rs : Readers) (f : Found)

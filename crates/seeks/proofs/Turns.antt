@@ -32,13 +32,10 @@ module _ (r : Found) (x : ℕ) (rs : Readers) (is : found x rs ≡ r) (f : Reade
 
 -- ---- difference and intersection: the first to e, then the others to its answer
 
+pub first-ended : (f : Seek) (e : ℕ) (rs : Readers) (x : ℕ) (rs₁ : Readers) → found x rs₁ ≡ f e rs → (g : ℕ → Readers → Found) → top ≤ x → on (f e rs) end g ≡ found x rs₁
+first-ended f e rs x rs₁ a g h = on-end (f e rs) x rs₁ a end g h ∙ sym (found-end x rs₁ h)
+
 module _ (again f g : Seek) (e : ℕ) (rs : Readers) (x : ℕ) (rs₁ : Readers) (a : found x rs₁ ≡ f e rs) where
-  pub differ-end : top ≤ x → differ-with again f g e rs ≡ found x rs₁
-  differ-end h = on-end (f e rs) x rs₁ a _ _ h ∙ sym (found-end x rs₁ h)
-
-  pub intersect-end : top ≤ x → intersect-with again f g e rs ≡ found x rs₁
-  intersect-end h = on-end (f e rs) x rs₁ a _ _ h ∙ sym (found-end x rs₁ h)
-
   module _ (low : x < top) (y : ℕ) (rs₂ : Readers) (b : found y rs₂ ≡ g x rs₁) where
     pub differ-stop : (y ≡ x → ⊥) → differ-with again f g e rs ≡ found x rs₂
     differ-stop h = on-at (f e rs) x rs₁ a _ _ low ∙ go (ltb y top) refl ∙ sym (found-at x rs₂ low)

@@ -15,13 +15,6 @@ use model::Node;
 use reader::Readers;
 use reader::Sought;
 
-// A list's number as an index.
-fn index(k: u8) -> usize
-    ensures { λ r. ⌜ r ≡ k ⌝ }
-{
-    k as usize
-}
-
 // The seek of a node.
 pub fn seek(
     numbers: &[u32],
@@ -47,7 +40,7 @@ pub fn seek(
         };
     };
     match known {
-        Node::Leaf(k) => reader::seek_list(numbers, ends, index(k), node, start, to),
+        Node::Leaf(k) => reader::seek_list(numbers, ends, expression::wide(k), node, start, to),
         Node::Difference => seek_difference(numbers, ends, nodes, behind, node, start, to),
         Node::Union(n) => seek_union(numbers, ends, nodes, behind, node, n, start, to),
         Node::Intersection(n) => seek_intersection(

@@ -5,7 +5,7 @@ use borrow.Author.Tests.{not-true, not-false}
 use borrow.Fn.Kinds.{In}
 use borrow.Fn.PlainCycle.{Measures, is, falls, and}
 use mathlib.Core.Path.{_≡_, sym, ap, _∙_}
-use mathlib.Core.Bool.{Bool, true, false}
+use mathlib.Core.Bool.{true, false}
 use Prim.Native.Nat.{ℕ, _+_, _-_, _*_, _<_, _≤_}
 use native.Mathlib.Omega.{arith}
 use lib.ListN.{length, getD}
@@ -17,9 +17,9 @@ use Rattle.model.specs.Steps.{Checked}
 use Rattle.expression.specs.Reading.{kind-says}
 use Rattle.reader.specs.Rows.{Standing, Standing-each}
 use Rattle.reader.specs.Sought.{readers-of, Tallied}
-use Rattle.reader.proofs.Members.{inside, goes-on, member-stands, others-stand}
+use Rattle.reader.proofs.Members.{not-unknown, list-there, first-stands, second-stands, members-stand, inside, goes-on, member-stands, others-stand}
 use Rattle.checks.proofs.Until.{Say, none-left, sought, not-sought}
-use Rattle.checks.proofs.Nodes.{joins, not-unknown, list-there, members-stand, first-stands, second-stands, of-list, of-members, of-no, of-yes}
+use Rattle.checks.proofs.Nodes.{joins, of-list, of-members, of-no, of-yes}
 use Rattle.checks.proofs.check.Reads as check
 use Rattle.checks.proofs.check.Kinds as check-kinds
 use Rattle.checks.proofs.+check+check_difference+check_members.Lts-check as N
@@ -30,7 +30,7 @@ use Rattle.checks.proofs.check_members.Reads as check-members
 use Rattle.checks.proofs.check_members.Kinds as check-members-kinds
 use Rattle.checks.proofs.+check+check_difference+check_members.Lts-check_members as M
 use Rattle.checks.proofs.check_list.Reads as check-list-reads
-use Rattle.checks.proofs.index.Reads as index-reads
+use Rattle.expression.proofs.wide.Reads as wide-reads
 use Rattle.expression.proofs.node_of.Reads as node-of-reads
 use Rattle.checks.proofs.+check+check_difference+check_members.{statement}
 use Rattle.checks.proofs.+check+check_difference+check_members.Tie.{close}
@@ -70,8 +70,8 @@ abbrev node-calls : ℕ → N.Claims
 node-calls t = (
   node-of-reads.Asked,
   node-of-reads.Learnt,
-  index-reads.Asked,
-  index-reads.Learnt,
+  wide-reads.Asked,
+  wide-reads.Learnt,
   check-list-reads.Asked,
   check-list-reads.Learnt,
   difference-below t,
@@ -99,11 +99,6 @@ module _ (t : ℕ) where
   node-inside : (c : Node-read) → start c .args .node < 48
   node-inside c = inside (start c .pre .1 .0) _ (start c .pre .1 .1 .0)
 
-  -- the member nodes of a union or an intersection
-  members-of : (c : Node-read) (b : Bool) (n : ℕ) → c .before .kind .given .0 .0 ≡ joins b n
-      → Standing-each (length (start c .args .ends .now)) (start c .args .nodes .now) (start c .args .node + 1) n
-  members-of c b n e = members-stand (start c .pre .1 .0) _ b n (node-is c (joins b n) e) (start c .pre .1 .1 .0)
-
   check-element-copy-out-node-of : N.Need-element-copy-out-node-of (node-calls t) (check-at t) check.Post
   check-element-copy-out-node-of c = let a = c .before .before in inside (a .pre .1 .0) _ (a .pre .1 .1 .0)
 
@@ -124,15 +119,15 @@ module _ (t : ℕ) where
   check-enum-known-known : N.Need-enum-known-known (node-calls t) (check-at t) check.Post
   check-enum-known-known c = search needs
 
-  check-index-requires : N.Need-index-requires (node-calls t) (check-at t) check.Post
-  check-index-requires c κs = search needs
+  check-wide-requires : N.Need-wide-requires (node-calls t) (check-at t) check.Post
+  check-wide-requires c κs = search needs
 
   check-check-list-requires : N.Need-check-list-requires (node-calls t) (check-at t) check.Post
   check-check-list-requires c κs =
       let r = c .before .before .before .before in
       let a = start r in
       let k = c .before .before .known .given in
-      (a .pre .1 .0 .lists, ((rw (c .index .ensures) (list-there (a .pre .1 .0) _ (k .0 .0) (node-is r (Leaf (k .0 .0)) (k .1)) (a .pre .1 .1 .0)), node-inside r), a .pre .1 .1 .1))
+      (a .pre .1 .0 .lists, ((rw (c .wide .ensures) (list-there (a .pre .1 .0) _ (k .0 .0) (node-is r (Leaf (k .0 .0)) (k .1)) (a .pre .1 .1 .0)), node-inside r), a .pre .1 .1 .1))
 
   check-enum-told-2 : N.Need-enum-told-2 (node-calls t) (check-at t) check.Post
   check-enum-told-2 c = search needs
@@ -153,7 +148,7 @@ module _ (t : ℕ) where
   check-check-members-requires c κs =
       let r = c .before .before .before in
       let a = start r in
-      (omega (arith, a .pre .0, node-inside r), (a .pre .1 .0, (members-of r true _ (c .before .known2 .given .1), a .pre .1 .1 .1)))
+      (omega (arith, a .pre .0, node-inside r), (a .pre .1 .0, (members-stand (a .pre .1 .0) _ (joins true (c .before .known2 .given .0 .0)) (node-is r _ (c .before .known2 .given .1)) (a .pre .1 .1 .0), a .pre .1 .1 .1)))
 
   check-enum-known-known-3 : N.Need-enum-known-known-3 (node-calls t) (check-at t) check.Post
   check-enum-known-known-3 c = search needs
@@ -165,14 +160,14 @@ module _ (t : ℕ) where
   check-check-members-requires-2 c κs =
       let r = c .before .before .before in
       let a = start r in
-      (omega (arith, a .pre .0, node-inside r), (a .pre .1 .0, (members-of r false _ (c .before .known3 .given .1), a .pre .1 .1 .1)))
+      (omega (arith, a .pre .0, node-inside r), (a .pre .1 .0, (members-stand (a .pre .1 .0) _ (joins false (c .before .known3 .given .0 .0)) (node-is r _ (c .before .known3 .given .1)) (a .pre .1 .1 .0), a .pre .1 .1 .1)))
 
   check-returns-2 : N.Need-returns-2 (node-calls t) (check-at t) check.Post
   check-returns-2 c =
       let r = c .before .before .before .before .before in
       let k = c .before .before .before .known .given in
       let e = c .check-list .ensures in
-      (e .0, of-list (start r .pre .1 .0) _ _ _ (k .0 .0) _ (node-is r (Leaf (k .0 .0)) (k .1)) (rw (c .before .index .ensures) at (e .1)))
+      (e .0, of-list (start r .pre .1 .0) _ _ _ (k .0 .0) _ (node-is r (Leaf (k .0 .0)) (k .1)) (rw (c .before .wide .ensures) at (e .1)))
 
   check-returns-3 : N.Need-returns-3 (node-calls t) (check-at t) check.Post
   check-returns-3 c = c .check-difference .ensures
@@ -304,7 +299,7 @@ pub +check+check-difference+check-members-spec : {M : Type 1} → statement M
     (check-enum-told t)
     (check-returns t)
     (check-enum-known-known t)
-    (check-index-requires t)
+    (check-wide-requires t)
     (check-check-list-requires t)
     (check-enum-told-2 t)
     (check-check-difference-requires t)

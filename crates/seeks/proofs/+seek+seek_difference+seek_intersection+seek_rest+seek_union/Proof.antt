@@ -20,14 +20,12 @@ use Rattle.model.specs.Lists.{top, lists-from}
 use Rattle.model.specs.Expression.{Tree}
 use Rattle.model.specs.Forms.{node-of}
 use Rattle.model.specs.Steps.{Found, seek as seek-tree}
-use Rattle.model.proofs.Accepted.{never-accepted}
 use Rattle.expression.specs.Reading.{kind-says}
 use Rattle.reader.specs.declared.Readers.{Readers}
 use Rattle.reader.specs.Rows.{Stands, Standing, Standing-each}
 use Rattle.reader.specs.Sought.{readers-of, Tallied}
-use Rattle.reader.proofs.Standing.{root, listed}
-use Rattle.reader.proofs.Members.{Pair, pair, inside, goes-on, member-stands, others-stand, Comes}
-use Rattle.seeks.proofs.Nodes.{uniting, following, both-ended, both-stopped, both-turned, Every, every, every-ended, every-none, every-stopped, every-turned, unite, members-stand, read-is, unites-last, unites-on, follows-last, follows-stop, follows-on}
+use Rattle.reader.proofs.Members.{Pair, pair, not-unknown, list-there, first-stands, second-stands, members-stand, inside, goes-on, member-stands, others-stand, Comes}
+use Rattle.seeks.proofs.Nodes.{uniting, following, both-ended, both-stopped, both-turned, Every, every, every-ended, every-none, every-stopped, every-turned, unite, read-is, unites-last, unites-on, follows-last, follows-stop, follows-on}
 use Rattle.seeks.proofs.seek.Reads as seek
 use Rattle.seeks.proofs.seek.Kinds as seek-kinds
 use Rattle.seeks.proofs.seek_difference.Reads as difference
@@ -45,7 +43,7 @@ use Rattle.seeks.proofs.+seek+seek_difference+seek_intersection+seek_re
 use Rattle.seeks.proofs.+seek+seek_difference+seek_intersection+seek_rest+seek_union.Lts-seek_union as U
 use Rattle.expression.proofs.node_of.Reads as node-of-reads
 use Rattle.reader.proofs.seek_list.Reads as seek-list-reads
-use Rattle.seeks.proofs.index.Reads as index-reads
+use Rattle.expression.proofs.wide.Reads as wide-reads
 use Rattle.seeks.proofs.+seek+seek_difference+seek_intersection+seek_rest+seek_union.{statement}
 use Rattle.seeks.proofs.+seek+seek_difference+seek_intersection+seek_rest+seek_union.Tie.{close}
 
@@ -101,7 +99,7 @@ union-below t = and 4 union-kinds.ps (falls 4 union-kinds.ps _<_ μ-union t) uni
 
 -- what each may call
 abbrev from-node : ℕ → S.Claims
-from-node t = (node-of-reads.Asked, node-of-reads.Learnt, index-reads.Asked, index-reads.Learnt, seek-list-reads.Asked, seek-list-reads.Learnt, difference-below t, difference.Post, union-below t, union.Post, intersection-below t, intersection.Post)
+from-node t = (node-of-reads.Asked, node-of-reads.Learnt, wide-reads.Asked, wide-reads.Learnt, seek-list-reads.Asked, seek-list-reads.Learnt, difference-below t, difference.Post, union-below t, union.Post, intersection-below t, intersection.Post)
 
 abbrev from-difference : ℕ → D.Claims
 from-difference t = (seek-below t, seek.Post)
@@ -178,14 +176,14 @@ module _ (t : ℕ) where
   seek-returns : S.Need-returns (from-node t) (seek-at t) seek.Post
   seek-returns c =
       let a = c .before .before .before .before .before .before in
-      never-accepted (ap kind-says (sym (c .enum-told .given .1)) ∙ c .before .before .node-of .ensures ∙ root _ _ _ _ (a .pre .1 .1 .0 .stands))
+      absurd (not-unknown (a .pre .1 .0) _ 14 (sym (c .before .before .node-of .ensures) ∙ ap kind-says (c .enum-told .given .1)) (a .pre .1 .1 .0))
 
   seek-seek-list-requires : S.Need-seek-list-requires (from-node t) (seek-at t) seek.Post
   seek-seek-list-requires c κs =
       let r = c .before .before .before .before in
       let a = node-start r in
       let k = c .before .before .known .given in
-      (a .pre .1 .0 .lists, ((rw (c .index .ensures) (listed _ _ _ _ _ (a .pre .1 .1 .0 .stands) (node-is r (Leaf (k .0 .0)) (k .1))), inside (a .pre .1 .0) _ (a .pre .1 .1 .0)), a .pre .1 .1 .1))
+      (a .pre .1 .0 .lists, ((rw (c .wide .ensures) (list-there (a .pre .1 .0) _ (k .0 .0) (node-is r (Leaf (k .0 .0)) (k .1)) (a .pre .1 .1 .0)), inside (a .pre .1 .0) _ (a .pre .1 .1 .0)), a .pre .1 .1 .1))
 
   seek-seek-difference-requires : S.Need-seek-difference-requires (from-node t) (seek-at t) seek.Post
   seek-seek-difference-requires c κs =
@@ -212,7 +210,7 @@ module _ (t : ℕ) where
       let r = c .before .before .before .before .before in
       let k = c .before .before .before .known .given in
       let e = c .seek-list .ensures in
-      (e .0, read-is _ _ _ _ (k .0 .0) (node-is r (Leaf (k .0 .0)) (k .1)) _ _ _ (rw (c .before .index .ensures) at (e .1)))
+      (e .0, read-is _ _ _ _ (k .0 .0) (node-is r (Leaf (k .0 .0)) (k .1)) _ _ _ (rw (c .before .wide .ensures) at (e .1)))
 
 -- ---- a difference
 
@@ -225,10 +223,10 @@ module _ (t : ℕ) where
   difference-trees a = pair (a .pre .1 .0) (a .args .node) (a .pre .1 .1 .1 .0)
 
   first-tree : (a : Difference-start) → Standing (length (a .args .ends .now)) (a .args .nodes .now) (a .args .node + 1)
-  first-tree a = let p = difference-trees a _ (a .pre .1 .1 .0 .stands) in record { tree = p .first; stands = p .first-at }
+  first-tree a = first-stands (a .pre .1 .0) _ (a .pre .1 .1 .1 .0) (a .pre .1 .1 .0)
 
   second-tree : (a : Difference-start) → Standing (length (a .args .ends .now)) (a .args .nodes .now) (getD (a .args .behind .now) (a .args .node + 1) 0)
-  second-tree a = let p = difference-trees a _ (a .pre .1 .1 .0 .stands) in record { tree = p .second; stands = p .second-at }
+  second-tree a = second-stands (a .pre .1 .0) _ (a .pre .1 .1 .1 .0) (a .pre .1 .1 .0)
 
   difference-long : (a : Difference-start) → length (a .args .start .places) ≡ 48
   difference-long a = search needs
@@ -497,7 +495,7 @@ module _ (t : ℕ) where
         low,
         omega arith,
         (a .pre .1 .1 .1 .1 .1, union-start-long a),
-        members-stand _ _ _ _ (λ i. c .before .shared-slice-known .given i .fits) (a .pre .1 .0) _ (known .tree) (known .stands) _ kind,
+        members-stand (a .pre .1 .0) _ _ kind (a .pre .1 .1 .0),
         λ f on u s. unite _ _ _ _ (λ i. c .before .shared-slice-known .given i .fits) (a .pre .1 .0) _ _ kind u s _ _ low (union-start-long a) f on,
       )
 
