@@ -8,7 +8,7 @@ use Prim.Native.Nat.{ℕ, zero, suc, _≤_, _<_}
 use native.Mathlib.Omega.{arith}
 use lib.Dec.{ltb, leb, eqb}
 use borrow.Author.Tests.{lt-ltb, ltb-true, ltb-false, leb-true, le-leb, eqb-true, eqb-false, eq-eqb}
-use lib.ListN.{getD}
+use lib.ListN.{length, getD}
 use Rattle.model.specs.Lists.{top, rises, ascending}
 use Rattle.model.specs.Expression.{Tree, leaf, difference, union, intersection, Members, one, more}
 use Rattle.model.specs.Sets.{among, member, member-some, member-all, all-numbers, least, lower, least-from, insert, select, members-from}
@@ -255,3 +255,27 @@ module _ (ls : List (List ℕ)) (up : (k : ℕ) → Up 0 (getD ls k [])) (t : Tr
 
   pub members-above : (x : ℕ) → bookmark ≤ x → member ls t x ≡ among x (members-from ls t bookmark)
   members-above x h = cc (members-are x, le-leb bookmark x h)
+
+-- they are no more than all numbers
+insert-few : (x : ℕ) (ys : List ℕ) → length (insert x ys) ≤ suc (length ys)
+unfolding insert
+insert-few x [] = omega arith
+insert-few x (y ∷ ys) = go (ltb x y) (eqb x y) (insert-few x ys)
+  where
+    go : (a b : Bool) → length (insert x ys) ≤ suc (length ys) → length {A = ℕ} (elim a [ true ↦ x ∷ y ∷ ys | false ↦ elim b [ true ↦ y ∷ ys | false ↦ y ∷ insert x ys ] ]) ≤ suc (suc (length ys))
+    go true b h = omega arith
+    go false true h = omega arith
+    go false false h = omega arith
+
+select-few : (p : ℕ → Bool) (xs : List ℕ) → length (select p xs) ≤ length xs
+unfolding select
+select-few p [] = omega arith
+select-few p (x ∷ xs) = go (p x) (select-few p xs)
+  where
+    go : (b : Bool) → length (select p xs) ≤ length xs → length {A = ℕ} (elim b [ true ↦ insert x (select p xs) | false ↦ select p xs ]) ≤ suc (length xs)
+    go true h = omega (arith, insert-few x (select p xs))
+    go false h = omega arith
+
+pub members-few : (ls : List (List ℕ)) (t : Tree) (bookmark : ℕ) → length (members-from ls t bookmark) ≤ length (all-numbers ls)
+unfolding members-from
+members-few ls t bookmark = select-few (λ x. leb bookmark x && member ls t x) (all-numbers ls)

@@ -12,12 +12,11 @@ use Rattle.model.specs.declared.Reply.the-variants.{Member, Finished}
 use Rattle.model.specs.Outcome.{accepted}
 use Rattle.model.specs.Expression.{Tree}
 use Rattle.model.specs.Sets.{member, all-numbers, members-from}
-use Rattle.model.specs.Machine.{next}
 use Rattle.model.specs.Run.{run, Source, source-of}
 use Rattle.model.specs.Forms.{read-packed}
 use Rattle.model.specs.Delivery.{read-delivery}
 use Rattle.model.specs.Calls.{ends-from}
-use Rattle.model.specs.Program.{halves, Listing, listing}
+use Rattle.model.specs.Program.{halves, Listing, listing-of, listing}
 use Rattle.model.specs.Demands.{nexts, Listed}
 use Rattle.model.proofs.Accepted.{accepted-same, bound, required}
 use Rattle.model.proofs.Deliveries.{Delivered, delivery-holds}
@@ -37,8 +36,8 @@ module _ (input : List ℕ) (stored : List ℕ × List ℕ) (is-stored : halves 
   unfolding source-of source
   is-source = rw (laid ls (holds .count) (holds .storable), ends-length 0 ls, is-tree)
 
-  listed : Listed input (record { members = members-from ls t 0; moves = run ls t 0 (replicate (suc (length (members-from ls t 0))) next) .moves })
-  unfolding source drawn
+  listed : Listed input (listing-of ls t)
+  unfolding source drawn listing-of
   listed =
       let d = drawn (all-numbers ls) (ends-from 0 ls) (stored .0) (laid-numbers ls (holds .storable)) source is-source 0 (omega arith) in
       let m : ℕ = suc (length (members-from ls t 0)) in

@@ -108,12 +108,12 @@ packed-back bytes lists lent-row lent small z room =
 -- ---- deliveries
 
 -- what reading hands back of lists that read
-read-sends : (bytes numbers ends : List ℕ) (ls : List (List ℕ)) → read-delivery (length numbers) (length ends) bytes ≡ accepted ls
+pub read-sends : (bytes numbers ends : List ℕ) (ls : List (List ℕ)) → read-delivery (length numbers) (length ends) bytes ≡ accepted ls
     → decode-delivery bytes numbers ends ≡ record { number = 0; parts = length ls ∷ length (all-numbers ls) ∷ []; rows = (all-numbers ls ++ drop (length (all-numbers ls)) numbers) ∷ (ends-from 0 ls ++ drop (length (ends-from 0 ls)) ends) ∷ [] }
 unfolding decode-delivery sent over
 read-sends bytes numbers ends ls e = rw e
 
-read-by : (bytes numbers ends : List ℕ) → decode-delivery bytes numbers ends .number ≡ 0 → Success-of (read-delivery (length numbers) (length ends) bytes)
+pub read-by : (bytes numbers ends : List ℕ) → decode-delivery bytes numbers ends .number ≡ 0 → Success-of (read-delivery (length numbers) (length ends) bytes)
 unfolding decode-delivery
 read-by bytes numbers ends z =
     let all-told = told-then (read-delivery (length numbers) (length ends) bytes) _ (delivery-told (length numbers) (length ends) bytes) (λ ls. told-right) in
@@ -122,8 +122,8 @@ read-by bytes numbers ends z =
     record { got = b .got; is = b .first }
 
 -- the lists are then in the rows
-lists-there : (numbers ends : List ℕ) (ls : List (List ℕ)) → take (length ls) (ends-from 0 ls ++ drop (length (ends-from 0 ls)) ends) ≡ ends-from 0 ls
-lists-there numbers ends ls = ap (λ (n : ℕ). take n (ends-from 0 ls ++ drop (length (ends-from 0 ls)) ends)) (sym (ends-length 0 ls)) ∙ take-append-seam (ends-from 0 ls) (drop (length (ends-from 0 ls)) ends)
+pub lists-there : (ends : List ℕ) (ls : List (List ℕ)) → take (length ls) (ends-from 0 ls ++ drop (length (ends-from 0 ls)) ends) ≡ ends-from 0 ls
+lists-there ends ls = ap (λ (n : ℕ). take n (ends-from 0 ls ++ drop (length (ends-from 0 ls)) ends)) (sym (ends-length 0 ls)) ∙ take-append-seam (ends-from 0 ls) (drop (length (ends-from 0 ls)) ends)
 
 write-sends : (numbers ends lent : List ℕ) (ls : List (List ℕ)) → lists-of numbers ends ≡ accepted ls → length (delivery ls) ≤ length lent → encode-delivery numbers ends lent ≡ wrote-all (delivery ls) lent
 unfolding encode-delivery sent over
@@ -149,7 +149,7 @@ lists-back numbers ends bytes lent-numbers lent-ends small ls e z room-numbers r
     let sends = ap (λ (b : List ℕ). decode-delivery b lent-numbers lent-ends) there
     ∙ read-sends (delivery ls) lent-numbers lent-ends ls (delivery-written (length lent-numbers) (length lent-ends) ls (held .1) (held .0) room-numbers room-ends) in (
       ap (λ (s : Sent). s .number) sends,
-      ap lists-read sends ∙ ap (lists-of (all-numbers ls ++ drop (length (all-numbers ls)) lent-numbers)) (lists-there lent-numbers lent-ends ls)
+      ap lists-read sends ∙ ap (lists-of (all-numbers ls ++ drop (length (all-numbers ls)) lent-numbers)) (lists-there lent-ends ls)
           ∙ laid-over ls (drop (length (all-numbers ls)) lent-numbers) (held .1) (held .0),
     )
 
@@ -162,7 +162,7 @@ delivery-back bytes lent-numbers lent-ends lent small z room =
     let held = delivery-holds (length lent-numbers) (length lent-ends) bytes ls (r .is) in
     let rest : List ℕ = drop (length (all-numbers ls)) lent-numbers in
     ap (λ (s : Sent). encode-delivery (getD (s .rows) 0 []) (take (getD (s .parts) 0 0) (getD (s .rows) 1 [])) lent) (read-sends bytes lent-numbers lent-ends ls (r .is))
-    ∙ ap (λ (e : List ℕ). encode-delivery (all-numbers ls ++ rest) e lent) (lists-there lent-numbers lent-ends ls)
+    ∙ ap (λ (e : List ℕ). encode-delivery (all-numbers ls ++ rest) e lent) (lists-there lent-ends ls)
     ∙ write-sends (all-numbers ls ++ rest) (ends-from 0 ls) lent ls (laid-over ls rest (held .count) (held .storable)) (rw same room)
     ∙ ap (λ (b : List ℕ). wrote-all b lent) same
 

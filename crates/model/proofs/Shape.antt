@@ -15,6 +15,7 @@ use Rattle.model.specs.Run.{State, step, steps, begin, Result, run, run-
 use Rattle.model.specs.Forms.{nodes, nodes-all, row-byte, row, packed, read-row, read-packed}
 use Rattle.model.specs.Delivery.{delivery, read-delivery}
 use Rattle.model.specs.Calls.{unpack-expression, pack-expression, decode-delivery, encode-delivery, run-call}
+use Rattle.model.specs.Program.{listing, listed, list-members}
 use Rattle.model.proofs.Accepted.{accepted-same, bound, required, packed-reads}
 use Rattle.model.proofs.Places.{counted-run}
 use Rattle.model.proofs.Deliveries.{delivery-holds}
@@ -131,3 +132,10 @@ run-shape numbers ends expression bookmark codes ds lent = sent-shape 50 (lent �
     let a = bound (run-of numbers ends expression bookmark codes ds (length lent)) _ s e in
     subst (Fits 50 (lent ∷ [])) (accepted-same (a .rest))
     (run-fits numbers ends expression bookmark codes ds lent (a .got) (run-accepted numbers ends expression bookmark codes ds (length lent) (a .got) (a .first))))
+
+pub listing-shape : (input lent : List ℕ) → Shape 2 (lent ∷ []) (list-members input lent)
+unfolding list-members listed
+listing-shape input lent = sent-shape 2 (lent ∷ []) _ (λ s e.
+    let a = bound (listing input) _ s e in
+    let b = required 6 (leb (length (a .got .members)) (length lent)) _ s (a .rest) in
+    subst (Fits 2 (lent ∷ [])) (accepted-same (b .1)) (refl, (leb-true (length (a .got .members)) (length lent) (b .0), tt)))

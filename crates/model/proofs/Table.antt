@@ -23,7 +23,7 @@ use Rattle.model.specs.Forms.{row, packed, read-row, read-packed}
 use Rattle.model.specs.Delivery
 use Rattle.model.specs.Delivery.{delivery, read-delivery}
 use Rattle.model.specs.Calls.{unpack-expression, pack-expression, decode-delivery, encode-delivery, run-call, ends-from}
-use Rattle.model.specs.Program.{halves, listing}
+use Rattle.model.specs.Program.{halves, listing-of, listing, listed, list-members}
 
 -- opens the definitions: under `unfolding computes` each side of a table computes
 opens-lists : Unit {0}
@@ -47,12 +47,16 @@ unfolding read-delivery Delivery.read-lists Delivery.read-list Delivery.read-bod
 opens-delivery = tt
 
 opens-calls : Unit {0}
-unfolding unpack-expression pack-expression decode-delivery encode-delivery run-call ends-from listing halves
+unfolding unpack-expression pack-expression decode-delivery encode-delivery run-call ends-from listing listing-of halves listed list-members
 opens-calls = tt
 
 computes : Unit {0}
 unfolding opens-lists opens-machine opens-steps opens-forms opens-delivery opens-calls
 computes = tt
+
+-- the program's stored example: 01 00 04 00 0C 00 00 00 08 08
+abbrev stored-example : List ℕ
+stored-example = 0x01 ∷ 0x00 ∷ 0x04 ∷ 0x00 ∷ 0x0C ∷ 0x00 ∷ 0x00 ∷ 0x00 ∷ 0x08 ∷ 0x08 ∷ []
 
 -- L0 to L3 of the report's figures 1 to 3
 abbrev pub figures : List (List ℕ)
@@ -378,6 +382,10 @@ pub record Edges : Type 0 where
   -- the program: no length byte, an expression that is short
   no-length : listing [] ≡ refused 1
   short-expression : listing (0x05 ∷ 0x00 ∷ []) ≡ refused 1
+  -- its members in a row that they fill, in a longer one, and in one that is one short
+  listed-exactly : list-members stored-example (7 ∷ 7 ∷ 7 ∷ []) ≡ gives (3 ∷ 3 ∷ []) ((2 ∷ 3 ∷ 5 ∷ []) ∷ [])
+  listed-longer : list-members stored-example (7 ∷ 7 ∷ 7 ∷ 7 ∷ []) ≡ gives (3 ∷ 3 ∷ []) ((2 ∷ 3 ∷ 5 ∷ 7 ∷ []) ∷ [])
+  listed-short : list-members stored-example (7 ∷ 7 ∷ []) ≡ refuses 6 2 ((7 ∷ 7 ∷ []) ∷ [])
 
 pub edges : Edges
 unfolding computes
@@ -409,6 +417,9 @@ edges = record {
   part-11 = refl;
   no-length = refl;
   short-expression = refl;
+  listed-exactly = refl;
+  listed-longer = refl;
+  listed-short = refl;
 }
 
 -- ---- orders: inputs to which two refusals apply, and the other side of a bound
@@ -552,7 +563,6 @@ pub largest-input : listing (replicate 65535 0) ≡ refused 7
 unfolding computes
 largest-input = refl
 
--- the program's stored example: 01 00 04 00 0C 00 00 00 08 08
-pub example : listing (0x01 ∷ 0x00 ∷ 0x04 ∷ 0x00 ∷ 0x0C ∷ 0x00 ∷ 0x00 ∷ 0x00 ∷ 0x08 ∷ 0x08 ∷ []) ≡ accepted (record { members = 2 ∷ 3 ∷ 5 ∷ []; moves = 3 })
+pub example : listing stored-example ≡ accepted (record { members = 2 ∷ 3 ∷ 5 ∷ []; moves = 3 })
 unfolding computes
 example = refl

@@ -1,5 +1,5 @@
 -- The public calls that write into lent rows, whole: what each sends back, for all arguments, with its lent rows to
--- their last element. (The part of a list is `Lists.part-of`, the program `Program.listing`.)
+-- their last element. (The part of a list is `Lists.part-of`, the program `Program.list-members`.)
 use mathlib.Core.List.{List, [], _∷_, _++_, map}
 use Prim.Native.Nat.{ℕ, _+_}
 use lib.Dec.{leb}
@@ -7,6 +7,7 @@ use lib.ListN.{length, replicate}
 use Rattle.model.specs.declared.Written.{Written}
 use Rattle.model.specs.declared.Delivered.{Delivered}
 use Rattle.model.specs.declared.Ran.{Ran}
+use Rattle.model.specs.declared.Counted.{Counted}
 use Rattle.model.specs.Outcome.{accepted, _>>=_, _>>_, require, Sent, sent}
 use Rattle.model.specs.Lists.{count-holds, lists-of}
 use Rattle.model.specs.Expression.{size}
@@ -30,6 +31,9 @@ run-parts moves places bookmark = moves ∷ (places ++ (bookmark ∷ []))
 abbrev pub ran : Ran → List ℕ → Sent
 ran r row = record { number = r .number; parts = run-parts (r .moves) (r .places) (r .bookmark); rows = row ∷ [] }
 
+abbrev pub counted : Counted → List ℕ → Sent
+counted r row = record { number = r .number; parts = r .count ∷ r .moves ∷ []; rows = row ∷ [] }
+
 -- "A refusal hands back its number, every other part of the result 0": as such a struct
 abbrev pub written-refused : ℕ → Written
 written-refused n = record { number = n; count = 0 }
@@ -39,6 +43,9 @@ delivered-refused n = record { number = n; lists = 0; numbers = 0 }
 
 abbrev pub ran-refused : ℕ → Ran
 ran-refused n = record { number = n; moves = 0; places = replicate 48 0; bookmark = 0 }
+
+abbrev pub counted-refused : ℕ → Counted
+counted-refused n = record { number = n; count = 0; moves = 0 }
 
 -- one end for each list, from lists that start at `start`
 unfoldable pub ends-from : ℕ → List (List ℕ) → List ℕ

@@ -3,7 +3,8 @@ use mathlib.Core.List.{List, [], _∷_}
 use Prim.Native.Nat.{ℕ, suc}
 use lib.Dec.{leb}
 use lib.ListN.{length, take, drop, replicate}
-use Rattle.model.specs.Outcome.{Outcome, refused, accepted, _>>=_, _>>_, require}
+use Rattle.model.specs.Outcome.{Outcome, refused, accepted, _>>=_, _>>_, require, Success, Sent, sent}
+use Rattle.model.specs.Expression.{Tree}
 use Rattle.model.specs.Sets.{members-from}
 use Rattle.model.specs.Machine.{next}
 use Rattle.model.specs.Run.{run}
@@ -22,12 +23,27 @@ pub record Listing : Type 0 where
   pub members : List ℕ
   pub moves : ℕ
 
--- "the whole input's size is tested first", then the halves, "then the delivery, then the expression"; one run from
--- bookmark 0 "whose only finished is its last reply": a next for each member and one more
+-- "In one run from bookmark 0, whose only finished is its last reply": a next for each member and one more
+unfoldable pub listing-of : List (List ℕ) → Tree → Listing
+listing-of ls t = let ms = members-from ls t 0 in record { members = ms; moves = run ls t 0 (replicate (suc (length ms)) next) .moves }
+
+-- "the whole input's size is tested first", then the halves, "then the delivery, then the expression"
 unfoldable pub listing : List ℕ → Outcome Listing
 listing input = do
   require 6 (leb (length input) 65535)
   (expression, stored) ← halves input
   ls ← read-delivery 4096 32 stored
   t ← read-packed (length ls) expression
-  accepted (let ms = members-from ls t 0 in record { members = ms; moves = run ls t 0 (replicate (suc (length ms)) next) .moves })
+  accepted (listing-of ls t)
+
+-- what success sends back: how many members, the moves; the members in a lent row, for which it may be too short (6)
+unfoldable pub listed : List ℕ → Listing → Outcome Success
+listed lent l = do
+  require 6 (leb (length (l .members)) (length lent))
+  accepted (record { parts = length (l .members) ∷ l .moves ∷ []; written = l .members ∷ [] })
+
+-- the work of the program as a call: its input, and a lent row for the members
+unfoldable pub list-members : List ℕ → List ℕ → Sent
+list-members input lent = sent 2 (lent ∷ []) (do
+  l ← listing input
+  listed lent l)

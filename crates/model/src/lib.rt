@@ -1,6 +1,6 @@
 // The types that the definitions and every other crate share. Their meaning is in specs/.
 ghost use mathlib.Core.Path.{_≡_};
-ghost use Rattle.model.specs.Calls.{written-refused, delivered-refused, ran-refused};
+ghost use Rattle.model.specs.Calls.{written-refused, delivered-refused, ran-refused, counted-refused};
 
 // One node of an expression: a list by its number, a difference of two nodes, a union or an intersection of 1 to 8
 // (their number). Its member nodes follow it, each with all that is below it.
@@ -73,6 +73,26 @@ impl Ran {
             moves: 0,
             places: [0u16; 48],
             bookmark: 0,
+        }
+    }
+}
+
+// What the work of the program `members` hands back: the number of a refusal or 0, how many members, and the moves.
+pub struct Counted {
+    pub number: u32,
+    pub count: usize,
+    pub moves: u32,
+}
+
+impl Counted {
+    // The same, of the work of the program `members`.
+    pub fn refused(number: u32) -> Self
+        ensures { λ r. ⌜ r ≡ counted-refused number ⌝ }
+    {
+        Counted {
+            number,
+            count: 0,
+            moves: 0,
         }
     }
 }
