@@ -6,8 +6,8 @@ use Prim.Native.Nat.{ℕ, _+_, _≤_, _<_}
 use native.Mathlib.Nat.{add-zero}
 use native.Mathlib.Numerals.{add-one}
 use native.Mathlib.Omega.{arith}
-use lib.ListN.{length, take, drop, set, length-append, length-take, length-drop, take-append-drop}
-use lib.Seq.{take-at, take-add, drop-drop, drop-append-add, set-split}
+use lib.ListN.{length, getD, take, drop, set, length-append, length-take, length-drop, take-append-drop, drop-of-length-le}
+use lib.Seq.{take-at, take-add, drop-drop, drop-append-add, drop-cons, set-split}
 use Rattle.fields.specs.Rows.{lay}
 
 module _ {A : Type 0} where
@@ -54,6 +54,14 @@ module _ {A : Type 0} where
 
   pub lay-cons : (row : List A) (i : ℕ) (x : A) (xs : List A) → i < length row → lay row i (x ∷ xs) ≡ lay (set row i x) (i + 1) xs
   lay-cons row i x xs h = sym (lay-append row i (x ∷ []) xs (omega arith)) ∙ ap (λ (r : List A). lay r (i + 1) xs) (sym (lay-set row i x h))
+
+  -- a row copied element by element: one more, and the last
+  pub lay-copied : (row from : List A) (i : ℕ) (x : A) → i < length from → i < length row → lay (set row i (getD from i x)) (i + 1) (drop (i + 1) from) ≡ lay row i (drop i from)
+  lay-copied row from i x h l =
+      sym (ap (lay row i) (drop-cons from i x h ∙ ap (λ (k : ℕ). getD from i x ∷ drop k from) (sym (add-one i))) ∙ lay-cons row i (getD from i x) (drop (i + 1) from) l)
+
+  pub lay-all : (row from : List A) (i : ℕ) → length from ≤ i → row ≡ lay row i (drop i from)
+  lay-all row from i h = sym (ap (lay row i) (drop-of-length-le from h) ∙ lay-nil row i)
 
   -- what stood there may be laid again around what is new
   pub lay-around : (row : List A) (at a b : ℕ) (xs : List A) → at + a + length xs + b ≤ length row

@@ -1,15 +1,13 @@
 -- `forms::copy_out` meets its contract. The loop's invariant: laying what is left of `from` from here on is laying all of it
 -- from the start. The measure is how much is left. Assumes nothing.
-use mathlib.Core.Path.{_≡_, refl, sym, ap, _∙_}
-use mathlib.Core.List.{List, _∷_}
-use Prim.Native.Nat.{ℕ, _+_, _-_, _≤_}
-use native.Mathlib.Numerals.{add-one}
+use mathlib.Core.Path.{_≡_, refl, _∙_}
+use mathlib.Core.List.{List}
+use Prim.Native.Nat.{ℕ, _-_, _≤_}
 use native.Mathlib.Omega.{arith}
 use borrow.Author.Needs.{needs}
-use lib.ListN.{length, getD, drop, length-set, drop-of-length-le}
-use lib.Seq.{drop-cons}
+use lib.ListN.{length, getD, drop, length-set}
 use Rattle.fields.specs.Rows.{lay}
-use Rattle.fields.proofs.Rows.{lay-nil, lay-cons}
+use Rattle.fields.proofs.Rows.{lay-copied, lay-all}
 use Rattle.forms.proofs.copy_out.Statement.{statement}
 use Rattle.forms.proofs.copy_out.Tie as tie
 
@@ -38,17 +36,13 @@ loop-again : tie.Need-loop-again Inv-loop μ-loop
 loop-again c =
     let l = c .before .before .loop in
     let from : List ℕ = c .before .before .before .args .from .now in
-    let x : ℕ = getD from (l .i) 0 in
-    let next : drop (l .i) from ≡ x ∷ drop (l .i + 1) from = drop-cons from (l .i) 0 (c .before .loop-test .taken) ∙ ap (λ (k : ℕ). x ∷ drop k from) (sym (add-one (l .i))) in
-    (omega arith, length-set (l .lent) (l .i) x ∙ l .inv .1, sym (ap (lay (l .lent) (l .i)) next ∙ lay-cons (l .lent) (l .i) x (drop (l .i + 1) from) (omega arith)) ∙ l .inv .2)
+    (omega arith, length-set (l .lent) (l .i) (getD from (l .i) 0) ∙ l .inv .1, lay-copied (l .lent) from (l .i) 0 (omega arith) (omega arith) ∙ l .inv .2)
 
 same-length : tie.Need-same-length Inv-loop μ-loop
 same-length c = search needs
 
 returns : tie.Need-returns Inv-loop μ-loop
-returns c =
-    let l = c .before .loop in
-    sym (ap (lay (l .lent) (l .i)) (drop-of-length-le (c .before .before .args .from .now) (c .loop-test .left)) ∙ lay-nil (l .lent) (l .i)) ∙ l .inv .2
+returns c = let l = c .before .loop in lay-all (l .lent) (c .before .before .args .from .now) (l .i) (omega arith) ∙ l .inv .2
 
 pub copy-out-spec : {M : Type 1} → statement M
 copy-out-spec =
