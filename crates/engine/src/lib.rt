@@ -21,10 +21,10 @@ use reader::Readers;
 const TOP: u64 = 4294967296;
 
 // What one call leaves to the next, and its reply.
-struct Stepped {
-    reply: Reply,
-    floor: u64,
-    readers: Readers,
+pub struct Stepped {
+    pub reply: Reply,
+    pub floor: u64,
+    pub readers: Readers,
 }
 
 // An answer below 4,294,967,296 as a number.
@@ -43,7 +43,7 @@ fn raised(floor: u64, to: u64) -> u64
 }
 
 // "reply the least member not below the floor; the floor becomes that member plus 1. If there is none: finished".
-fn draw(
+pub fn draw(
     numbers: &[u32],
     ends: &[u32],
     nodes: &[u8; 48],
