@@ -1,0 +1,100 @@
+-- A page, turn by turn; and where its row is longer than there are members, it holds all of them and ends with finished. Assumes
+-- nothing.
+use mathlib.Core.Path.{_≡_, refl, sym, ap, ap₂, _∙_}
+use mathlib.Core.Bool.{true, false}
+use mathlib.Core.List.{List, [], _∷_, _++_, map}
+use Prim.Native.Nat.{ℕ, zero, suc, _+_, _-_, _≤_, _<_}
+use native.Mathlib.Nat.{add-zero, zero-add}
+use native.Mathlib.Omega.{arith}
+use lib.ListN.{length, getD, set, drop, replicate, length-set}
+use Rattle.model.specs.declared.Reply.{Reply}
+use Rattle.model.specs.declared.Reply.the-variants.{Member, Finished, Yes, No, Unknown}
+use Rattle.model.specs.Expression.{Tree}
+use Rattle.model.specs.Machine.{next}
+use Rattle.model.specs.Steps.{seek}
+use Rattle.model.specs.Run.{State, drawn, step, steps}
+use Rattle.fields.specs.Rows.{lay}
+use Rattle.fields.proofs.Rows.{lay-nil, lay-cons}
+use Rattle.listing.specs.Pages.{Drawing, go-on, page, Handed, laid-down}
+
+-- a drawing laid down from place i on
+abbrev placed : Drawing → List ℕ → ℕ → Handed
+placed d row i = (i + length (d .0), d .1, d .2, lay row i (d .0))
+
+abbrev told : Drawing → ℕ → List ℕ → Handed
+told d n row = (n, d .1, d .2, row)
+
+abbrev more : ℕ → Drawing → Drawing
+more x d = (x ∷ d .0, d .1, d .2)
+
+-- by the reply
+goes-on : (rest : State → Drawing) (p : Reply × State) (x : ℕ) → p .0 ≡ Member x → go-on rest p ≡ more x (rest (p .1))
+unfolding go-on
+goes-on rest (r, s) x e = ap (λ (q : Reply). go-on rest (q, s)) e
+
+goes-no-further : (rest : State → Drawing) (p : Reply × State) → p .0 ≡ Finished → go-on rest p ≡ ([], p .1, true)
+unfolding go-on
+goes-no-further rest (r, s) e = ap (λ (q : Reply). go-on rest (q, s)) e
+
+module _ (ls : List (List ℕ)) (t : Tree) where
+  -- what is handed back from here on, where i members stand in the row
+  unfoldable pub hands : State → List ℕ → ℕ → Handed
+  hands s row i = placed (page ls t s (length row - i)) row i
+
+  pub hands-start : (s : State) (row : List ℕ) → hands s row 0 ≡ laid-down (page ls t s (length row)) row
+  unfolding hands laid-down
+  hands-start s row =
+      let all : length row - 0 ≡ length row = omega arith in
+      rw (all, zero-add (length (page ls t s (length row) .0)))
+
+  -- the row is full
+  pub hands-full : (s : State) (row : List ℕ) (i : ℕ) → length row ≤ i → _≡_ {A = Handed} (i, s, false, row) (hands s row i)
+  unfolding hands page
+  hands-full s row i h =
+      let none : length row - i ≡ 0 = omega arith in
+      rw (none, lay-nil row i, add-zero i)
+
+  -- a turn
+  turn : (s : State) (row : List ℕ) (i : ℕ) (p : Reply × State) → i < length row → p ≡ drawn (seek ls t 0 (s .floor) (s .readers))
+      → placed (go-on (λ s. page ls t s (length row - (i + 1))) p) row i ≡ hands s row i
+  unfolding hands page step
+  turn s row i p h e =
+      let left : length row - i ≡ suc (length row - (i + 1)) = omega arith in
+      ap (λ (q : Reply × State). placed (go-on (λ s. page ls t s (length row - (i + 1))) q) row i) e
+      ∙ sym (ap (λ (n : ℕ). placed (page ls t s n) row i) left)
+
+  -- one member more
+  pub hands-member : (s : State) (row : List ℕ) (i : ℕ) (p : Reply × State) (x : ℕ) → i < length row → p .0 ≡ Member x → p ≡ drawn (seek ls t 0 (s .floor) (s .readers))
+      → hands (p .1) (set row i x) (i + 1) ≡ hands s row i
+  unfolding hands
+  hands-member s row i p x h m e =
+      let d = page ls t (p .1) (length row - (i + 1)) in
+      let one : i + 1 + length (d .0) ≡ i + suc (length (d .0)) = omega arith in
+      ap (λ (n : ℕ). placed (page ls t (p .1) (n - (i + 1))) (set row i x) (i + 1)) (length-set row i x)
+      ∙ ap₂ (told d) one (sym (lay-cons row i x (d .0) h))
+      ∙ ap (λ (d : Drawing). placed d row i) (sym (goes-on (λ s. page ls t s (length row - (i + 1))) p x m))
+      ∙ turn s row i p h e
+
+  -- no member: the page ends
+  pub hands-ended : (s : State) (row : List ℕ) (i : ℕ) (p : Reply × State) → i < length row → ((x : ℕ) → p .0 ≡ Member x → ⊥) → p ≡ drawn (seek ls t 0 (s .floor) (s .readers))
+      → _≡_ {A = Handed} (i, p .1, true, row) (hands s row i)
+  unfolding go-on
+  hands-ended s row i p h other e = ends p other ∙ turn s row i p h e
+    where
+      ends : (p : Reply × State) → ((x : ℕ) → p .0 ≡ Member x → ⊥) → _≡_ {A = Handed} (i, p .1, true, row) (placed (go-on (λ s. page ls t s (length row - (i + 1))) p) row i)
+      ends (Member x, after) other = absurd (other x refl)
+      ends (Finished, after) other = rw (lay-nil row i, add-zero i)
+      ends (Yes, after) other = rw (lay-nil row i, add-zero i)
+      ends (No, after) other = rw (lay-nil row i, add-zero i)
+      ends (Unknown, after) other = rw (lay-nil row i, add-zero i)
+
+  -- all members and then finished: the page is those, and its last state is that behind the finished
+  pub page-all : (ms : List ℕ) (s : State) (n : ℕ) → length ms < n → steps ls t s (replicate (suc (length ms)) next) .0 ≡ map Member ms ++ (Finished ∷ [])
+      → page ls t s n ≡ (ms, steps ls t s (replicate (suc (length ms)) next) .1, true)
+  unfolding page steps
+  page-all ms s zero h e = absurd (omega arith)
+  page-all [] s (suc n) h e = goes-no-further _ (step ls t s next) (ap (λ (rs : List Reply). getD rs 0 Finished) e)
+  page-all (x ∷ ms) s (suc n) h e =
+      let after : State = step ls t s next .1 in
+      goes-on (λ s. page ls t s n) (step ls t s next) x (ap (λ (rs : List Reply). getD rs 0 Finished) e)
+      ∙ ap (more x) (page-all ms after n (omega arith) (ap (drop 1) e))

@@ -1,0 +1,198 @@
+-- The work of `members` whole: its tests one after another, and behind them a page that holds every member. Assumes nothing.
+use mathlib.Core.Path.{_≡_, refl, sym, ap, ap₂, _∙_}
+use mathlib.Core.Bool.{true}
+use mathlib.Core.List.{List, [], _∷_, _++_, map}
+use Prim.Native.Nat.{ℕ, suc, _+_, _-_, _≤_, _<_}
+use native.Mathlib.Nat.{zero-add}
+use native.Mathlib.Numerals.{add-one}
+use native.Mathlib.Omega.{arith}
+use borrow.Author.Tests.{le-leb, lt-leb}
+use lib.ListN.{length, getD, take, drop, replicate, length-take, length-drop}
+use lib.Seq.{take-all}
+use Rattle.model.specs.declared.Delivered.{Delivered}
+use Rattle.model.specs.declared.Reply.the-variants.{Member, Finished}
+use Rattle.model.specs.Outcome.{Outcome, refused, accepted, _>>=_, _>>_, number-of, Success, Sent, over, sent}
+use Rattle.model.specs.Lists.{Numbers, lists-from, lists-of}
+use Rattle.model.specs.Expression.{Tree}
+use Rattle.model.specs.Sets.{all-numbers, members-from}
+use Rattle.model.specs.Machine.{next}
+use Rattle.model.specs.Run.{steps, begin, run, Source, source-of}
+use Rattle.model.specs.Forms.{read-packed}
+use Rattle.model.specs.Delivery.{read-delivery}
+use Rattle.model.specs.Calls.{counted, counted-refused, delivered, ends-from, decode-delivery}
+use Rattle.model.specs.Program.{halves, listing-of, listing, listed, list-members}
+use Rattle.model.proofs.Accepted.{lists-accepted}
+use Rattle.model.proofs.Denoted.{members-few}
+use Rattle.model.proofs.Deliveries.{delivery-holds}
+use Rattle.model.proofs.DemandThree.{drawn}
+use Rattle.model.proofs.Laid.{ends-length, lists-length, laid-over}
+use Rattle.model.proofs.RoundTrips.{read-sends, lists-there}
+use Rattle.fields.specs.Rows.{lay}
+use Rattle.fields.proofs.Rows.{lay-take}
+use Rattle.listing.specs.declared.Page.{Page}
+use Rattle.listing.specs.Pages.{Drawing, page, Handed, page-of, laid-down}
+use Rattle.listing.specs.Over.{Delivered-lists, list-over}
+use Rattle.listing.proofs.Pages.{page-all}
+
+-- ---- behind the delivery
+
+-- the moves of one run: a next for each member and one more
+abbrev pub moves-of : List (List ℕ) → Tree → ℕ
+moves-of ls t = run ls t 0 (replicate (suc (length (members-from ls t 0))) next) .moves
+
+-- a page that holds every member
+pub record All-drawn (ls : List (List ℕ)) (t : Tree) (r : Page) (row : List ℕ) : Type 0 where
+  pub count : r .count ≡ length (members-from ls t 0)
+  pub moved : r .readers .moves ≡ moves-of ls t
+  pub holds : take (r .count) row ≡ members-from ls t 0
+  pub inside : r .count ≤ length row
+
+module _ (numbers ends packed lent : List ℕ) where
+  abbrev ls : List (List ℕ)
+  ls = lists-from numbers 0 ends
+
+  pub over-refuses : (n : ℕ) → read-packed (length ends) packed ≡ refused n → counted (counted-refused n) lent ≡ list-over ls packed lent
+  unfolding list-over sent
+  over-refuses n e = rw (lists-length numbers 0 ends, e)
+
+  module _ (t : Tree) (f : read-packed (length ends) packed ≡ accepted t) where
+    abbrev ms : List ℕ
+    ms = members-from ls t 0
+
+    pub over-short : length lent < length ms → counted (counted-refused 6) lent ≡ list-over ls packed lent
+    unfolding list-over sent listed listing-of
+    over-short h = rw (lists-length numbers 0 ends, f, lt-leb (length ms) (length lent) h)
+
+    pub over-lists : length ms ≤ length lent → counted (record { number = 0; count = length ms; moves = moves-of ls t }) (lay lent 0 ms) ≡ list-over ls packed lent
+    unfolding list-over sent listed listing-of over lay
+    over-lists h = rw (lists-length numbers 0 ends, f, le-leb (length ms) (length lent) h, zero-add (length ms))
+
+    module _ (n : Numbers numbers) (d : Delivered-lists numbers ends) where
+      source : Source
+      source = record { lists = ls; tree = t }
+
+      is-source : source-of numbers ends packed ≡ accepted source
+      unfolding source-of source
+      is-source = rw (d .lists, f)
+
+      -- the run's replies are the members and one finished
+      replies : steps ls t (begin 0) (replicate (suc (length ms)) next) .0 ≡ map Member ms ++ (Finished ∷ [])
+      unfolding run drawn source
+      replies =
+          let m : ℕ = suc (length ms) in
+          let more : m - length ms ≡ 1 = omega arith in
+          drawn numbers ends packed n source is-source 0 (omega arith) .replies m ∙ ap₂ (λ (k : List ℕ) (i : ℕ). map Member k ++ replicate i Finished) (take-all m ms (omega arith)) more
+
+      few : length ms ≤ 4096
+      few = omega (arith, members-few ls t 0, d .few)
+
+      -- in a page of 4,097 places
+      pub draws-all : (room : List ℕ) → length room ≡ 4097 → (r : Page) (row : List ℕ) → page-of r row ≡ laid-down (page ls t (begin 0) (length room)) room → All-drawn ls t r row
+      unfolding run laid-down
+      draws-all room long r row e =
+          let whole : page-of r row ≡ laid-down (ms, steps ls t (begin 0) (replicate (suc (length ms)) next) .1, true) room =
+          e ∙ ap (λ (d : Drawing). laid-down d room) (page-all ls t ms (begin 0) (length room) (omega (arith, few)) replies) in
+          let count : r .count ≡ length ms = ap (λ (h : Handed). h .0) whole in
+          let holds : take (r .count) row ≡ ms = ap₂ (λ (n : ℕ) (h : List ℕ). take n h) (count ∙ sym (zero-add (length ms))) (ap (λ (h : Handed). h .3) whole) ∙ lay-take room 0 ms (omega arith) in
+          record {
+            count = count;
+            moved = ap (λ (h : Handed). h .1 .readers .moves) whole;
+            holds = holds;
+            inside = omega (arith, length-take (r .count) row, ap (λ (l : List ℕ). length l) holds);
+          }
+
+-- ---- the input
+
+-- its two parts, where the expression ends at `end`
+abbrev pub first-part : List ℕ → ℕ → List ℕ
+first-part input end = take (end - 1) (drop 1 input)
+
+abbrev pub second-part : List ℕ → ℕ → List ℕ
+second-part input end = take (length input - end) (drop end input)
+
+halves-none : (input : List ℕ) → length input ≡ 0 → halves input ≡ refused 1
+unfolding halves
+halves-none [] h = refl
+halves-none (b ∷ bs) h = absurd (omega arith)
+
+halves-short : (input : List ℕ) (end : ℕ) → (length input ≡ 0 → ⊥) → end ≡ getD input 0 0 + 1 → length input < end → halves input ≡ refused 1
+unfolding halves
+halves-short [] end some e h = absurd (some refl)
+halves-short (b ∷ bs) end some e h = rw (lt-leb b (length bs) (omega arith))
+
+halves-are : (input : List ℕ) (end : ℕ) → (length input ≡ 0 → ⊥) → end ≡ getD input 0 0 + 1 → end ≤ length input → halves input ≡ accepted (first-part input end, second-part input end)
+unfolding halves
+halves-are [] end some e h = absurd (some refl)
+halves-are (b ∷ bs) end some e h =
+    let first : end - 1 ≡ b = omega arith in
+    let last : drop end (b ∷ bs) ≡ drop b bs = ap (λ (n : ℕ). drop n (b ∷ bs)) (e ∙ add-one b) in
+    rw (le-leb b (length bs) (omega arith), first, last, take-all (length (b ∷ bs) - end) (drop b bs) (omega (arith, length-drop b bs)))
+
+module _ (input lent : List ℕ) where
+  pub refuses-size : 65535 < length input → counted (counted-refused 6) lent ≡ list-members input lent
+  unfolding list-members listing sent
+  refuses-size h = rw (lt-leb (length input) 65535 h)
+
+  module _ (small : length input ≤ 65535) where
+    refuses-halves : halves input ≡ refused 1 → counted (counted-refused 1) lent ≡ list-members input lent
+    unfolding list-members listing sent
+    refuses-halves e = rw (le-leb (length input) 65535 small, e)
+
+    pub refuses-none : length input ≡ 0 → counted (counted-refused 1) lent ≡ list-members input lent
+    refuses-none h = refuses-halves (halves-none input h)
+
+    module _ (end : ℕ) (some : length input ≡ 0 → ⊥) (e : end ≡ getD input 0 0 + 1) where
+      pub refuses-short : length input < end → counted (counted-refused 1) lent ≡ list-members input lent
+      refuses-short h = refuses-halves (halves-short input end some e h)
+
+      module _ (fits : end ≤ length input) where
+        pub refuses-delivery : (n : ℕ) → read-delivery 4096 32 (second-part input end) ≡ refused n → counted (counted-refused n) lent ≡ list-members input lent
+        unfolding list-members listing sent
+        refuses-delivery n f = rw (le-leb (length input) 65535 small, halves-are input end some e fits, f)
+
+        -- behind the delivery
+        pub goes-over : (ls : List (List ℕ)) → read-delivery 4096 32 (second-part input end) ≡ accepted ls → list-over ls (first-part input end) lent ≡ list-members input lent
+        unfolding list-members listing list-over
+        goes-over ls f = rw (le-leb (length input) 65535 small, halves-are input end some e fits, f) (go (read-packed (length ls) (first-part input end)))
+          where
+            go : (o : Outcome Tree) → sent 2 (lent ∷ []) (o >>= λ t. listed lent (listing-of ls t)) ≡ sent 2 (lent ∷ []) ((o >>= λ t. accepted (listing-of ls t)) >>= listed lent)
+            go (refused n) = refl
+            go (accepted t) = refl
+
+-- ---- the delivery, read into 4,096 numbers and 32 ends
+
+-- the lists stand in the rows
+pub record Laid-lists (r : Delivered) (row stops : List ℕ) (ls : List (List ℕ)) : Type 0 where
+  pub inside : r .lists ≤ length stops
+  pub lists-are : lists-from row 0 (take (r .lists) stops) ≡ ls
+  pub delivered-lists : Delivered-lists row (take (r .lists) stops)
+
+module _ (bytes numbers ends : List ℕ) (long : length numbers ≡ 4096) (many : length ends ≡ 32) (r : Delivered) (row stops : List ℕ) (e : delivered r row stops ≡ decode-delivery bytes numbers ends) where
+  -- the number that was handed back
+  pub delivered-number : r .number ≡ number-of (read-delivery 4096 32 bytes)
+  unfolding decode-delivery sent number-of
+  delivered-number = ap (λ (s : Sent). s .number) e ∙ ap₂ (λ (n m : ℕ). sent 2 (numbers ∷ ends ∷ []) (read-delivery n m bytes >>= whole) .number) long many ∙ go (read-delivery 4096 32 bytes)
+    where
+      whole : List (List ℕ) → Outcome Success
+      whole ls = accepted (record { parts = length ls ∷ length (all-numbers ls) ∷ []; written = all-numbers ls ∷ ends-from 0 ls ∷ [] })
+
+      go : (o : Outcome (List (List ℕ))) → sent 2 (numbers ∷ ends ∷ []) (o >>= whole) .number ≡ number-of o
+      go (refused n) = refl
+      go (accepted ls) = refl
+
+  -- and the lists
+  pub lists-laid : (ls : List (List ℕ)) → read-delivery 4096 32 bytes ≡ accepted ls → Laid-lists r row stops ls
+  lists-laid ls f =
+      let read : read-delivery (length numbers) (length ends) bytes ≡ accepted ls = ap₂ (λ (n m : ℕ). read-delivery n m bytes) long many ∙ f in
+      let whole = e ∙ read-sends bytes numbers ends ls read in
+      let holds = delivery-holds 4096 32 bytes ls f in
+      let count : r .lists ≡ length ls = ap (λ (s : Sent). getD (s .parts) 0 0) whole in
+      let stops-are : take (r .lists) stops ≡ ends-from 0 ls = ap₂ (λ (n : ℕ) (s : Sent). take n (getD (s .rows) 1 [])) count whole ∙ lists-there ends ls in
+      let is : lists-of row (take (r .lists) stops) ≡ accepted ls =
+      ap₂ (λ (s : Sent) (k : List ℕ). lists-of (getD (s .rows) 0 []) k) whole stops-are ∙ laid-over ls (drop (length (all-numbers ls)) numbers) (holds .count) (holds .storable) in
+      let are : lists-from row 0 (take (r .lists) stops) ≡ ls = lists-accepted row (take (r .lists) stops) ls is .are in
+      record {
+        inside = omega (arith, length-take (r .lists) stops, ap (λ (l : List ℕ). length l) stops-are, ends-length 0 ls);
+        lists-are = are;
+        delivered-lists = record { lists = is ∙ ap accepted (sym are); few = rw are (holds .numbers) };
+      }

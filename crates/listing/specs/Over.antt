@@ -1,0 +1,21 @@
+-- The work of `members` behind its delivery.
+use mathlib.Core.Path.{_≡_}
+use mathlib.Core.List.{List, [], _∷_}
+use Prim.Native.Nat.{ℕ, _≤_}
+use lib.ListN.{length}
+use Rattle.model.specs.Outcome.{accepted, _>>=_, Sent, sent}
+use Rattle.model.specs.Lists.{lists-from, lists-of}
+use Rattle.model.specs.Sets.{all-numbers}
+use Rattle.model.specs.Forms.{read-packed}
+use Rattle.model.specs.Program.{listing-of, listed}
+
+-- lists that were delivered: accepted, of at most 4,096 numbers in all
+pub record Delivered-lists (numbers ends : List ℕ) : Type 0 where
+  pub lists : lists-of numbers ends ≡ accepted (lists-from numbers 0 ends)
+  pub few : length (all-numbers (lists-from numbers 0 ends)) ≤ 4096
+
+-- "then the expression"; then its members into the lent row
+unfoldable pub list-over : List (List ℕ) → List ℕ → List ℕ → Sent
+list-over ls packed lent = sent 2 (lent ∷ []) (do
+  t ← read-packed (length ls) packed
+  listed lent (listing-of ls t))
