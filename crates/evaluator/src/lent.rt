@@ -1,0 +1,98 @@
+// The lent lists: where each one begins and ends, and what the paper refuses of them.
+
+// A place in the numbers.
+fn place(x: u32) -> usize {
+    x as usize
+}
+
+// Where list k begins: at the end of the list before it, the first at 0.
+pub fn start(ends: &[u32], k: usize) -> usize {
+    if 0 < k {
+        if k <= ends.len() {
+            return place(ends[k - 1]);
+        }
+    }
+    0
+}
+
+// Where list k ends, 0 if there is no such list.
+pub fn end(ends: &[u32], k: usize) -> usize {
+    if k < ends.len() { place(ends[k]) } else { 0 }
+}
+
+// How many numbers list k has, 0 if its end lies before its start.
+pub fn size(ends: &[u32], k: usize) -> usize {
+    let from = start(ends, k);
+    let to = end(ends, k);
+    if from <= to { to - from } else { 0 }
+}
+
+// Whether list k's end neither falls nor passes the row, and the list is not over 65,535.
+fn is_sized(ends: &[u32], k: usize, row: usize) -> bool {
+    let to = end(ends, k);
+    if to < start(ends, k) {
+        return false;
+    }
+    if row < to {
+        return false;
+    }
+    size(ends, k) <= 65535
+}
+
+fn are_sized(numbers: &[u32], ends: &[u32]) -> bool {
+    for k in 0..ends.len() {
+        if !is_sized(ends, k, numbers.len()) {
+            return false;
+        }
+    }
+    true
+}
+
+// Whether the number at place i is not above the one before it.
+fn falls(numbers: &[u32], i: usize) -> bool {
+    if 0 < i {
+        if i < numbers.len() {
+            return numbers[i] <= numbers[i - 1];
+        }
+    }
+    false
+}
+
+// Whether each number at the places from .. to is above the one before it among them.
+fn is_ascending(numbers: &[u32], from: usize, to: usize) -> bool {
+    for i in from..to {
+        if from < i && falls(numbers, i) {
+            return false;
+        }
+    }
+    true
+}
+
+fn are_ascending(numbers: &[u32], ends: &[u32]) -> bool {
+    for k in 0..ends.len() {
+        if !is_ascending(numbers, start(ends, k), end(ends, k)) {
+            return false;
+        }
+    }
+    true
+}
+
+// What is refused of the ends: 7 or 10, else 0.
+pub fn ends_refused(numbers: &[u32], ends: &[u32]) -> u32 {
+    if ends.len() == 0 {
+        return 7;
+    }
+    if 32 < ends.len() {
+        return 7;
+    }
+    if are_sized(numbers, ends) { 0 } else { 10 }
+}
+
+// What is refused of the lists: 7, 10 or 11, each over all lists before the next, else 0.
+pub fn refused(numbers: &[u32], ends: &[u32]) -> u32 {
+    let number = ends_refused(numbers, ends);
+    if number != 0 {
+        return number;
+    }
+    if are_ascending(numbers, ends) { 0 } else { 11 }
+}
