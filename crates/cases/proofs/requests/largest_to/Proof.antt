@@ -1,0 +1,54 @@
+-- Safe and ending: the numbers used are inside the row, and those left fall.
+use Prim.Native.Nat.{_≤_, _-_}
+use borrow.Author.Needs.{needs}
+use Rattle.cases.proofs.requests.largest_to.Statement.{statement}
+use Rattle.cases.proofs.requests.largest_to.Tie as tie
+
+abbrev Inv-loop : tie.InvT-loop
+Inv-loop ceiling l best₀ i₀ i-end best i = i-end ≤ 512
+
+abbrev μ-loop : tie.MeasureT-loop
+μ-loop ceiling l best₀ i₀ i-end best i = i-end - i
+
+loop-holds : tie.Need-loop-holds Inv-loop μ-loop
+loop-holds c = search needs
+
+mul-wide : tie.Need-mul-wide Inv-loop μ-loop
+mul-wide c = search needs
+
+element-copy-out-wide : tie.Need-element-copy-out-wide Inv-loop μ-loop
+element-copy-out-wide c = search needs
+
+wide-requires : tie.Need-wide-requires Inv-loop μ-loop
+wide-requires c κs = search needs
+
+higher-requires : tie.Need-higher-requires Inv-loop μ-loop
+higher-requires c κs = search needs
+
+add-i : tie.Need-add-i Inv-loop μ-loop
+add-i c = search needs
+
+loop-less : tie.Need-loop-less Inv-loop μ-loop
+loop-less c = search needs
+
+loop-again : tie.Need-loop-again Inv-loop μ-loop
+loop-again c = search needs
+
+returns : tie.Need-returns Inv-loop μ-loop
+returns c = search needs
+
+pub largest-to-spec : {M : Type 1} → statement M
+largest-to-spec =
+    tie.close
+    (tie.spec
+    Inv-loop
+    μ-loop
+    loop-holds
+    mul-wide
+    element-copy-out-wide
+    wide-requires
+    higher-requires
+    add-i
+    loop-less
+    loop-again
+    returns)

@@ -1,0 +1,26 @@
+// A fixed, seeded generator of inputs, for comparing two implementations of a run. Every value is a
+// function of the case's number and of what it is for, so any case can be made again from its
+// number alone.
+pub mod damage;
+pub mod dice;
+pub mod inputs;
+pub mod numbers;
+pub mod packing;
+pub mod requests;
+pub mod trees;
+
+pub use damage::bad_bookmark;
+pub use damage::damaged;
+pub use damage::damaged_lists;
+pub use inputs::Bytes;
+pub use inputs::Calls;
+pub use inputs::Lists;
+pub use inputs::Row;
+pub use inputs::first_bytes;
+pub use inputs::first_numbers;
+pub use numbers::lists;
+pub use packing::packed;
+pub use requests::bookmark;
+pub use requests::breaking;
+pub use requests::calls;
+pub use trees::expression;
