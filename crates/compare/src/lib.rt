@@ -1,0 +1,381 @@
+// One generated case given to the engine and to the second evaluator: both stored forms written and read back, a run, the run
+// broken off and resumed, and the program's list.
+mod rows;
+mod stored;
+
+use cases::Bytes;
+use cases::Calls;
+use cases::Lists;
+use cases::first_bytes;
+use cases::first_numbers;
+use rows::are_joined;
+use rows::are_members;
+use rows::are_places;
+use rows::last_bytes;
+use rows::last_numbers;
+use rows::same_replies;
+use stored::Delivery;
+use stored::Packed;
+
+// What a lent reply holds before a run.
+const MARK: u64 = 12297829382473034410;
+
+const MARK_32: u32 = 2863311530;
+
+const FINISHED: u64 = 4294967298;
+
+// What came out differently, 0 where nothing did, and what the engine's run handed back.
+pub struct Verdict {
+    pub differs: u32,
+    pub number: u32,
+    pub moves: u32,
+    pub bookmark: u64,
+    pub replies: [u64; 32],
+}
+
+// The comparisons, by the number that `differs` has where one fails.
+pub const EXPRESSION: u32 = 1;
+
+pub const DELIVERY: u32 = 2;
+
+pub const NUMBER: u32 = 3;
+
+pub const REPLIES: u32 = 4;
+
+pub const BOOKMARK: u32 = 5;
+
+pub const PLACES: u32 = 6;
+
+pub const BROKEN: u32 = 7;
+
+pub const MEMBERS: u32 = 8;
+
+fn failed(what: u32) -> Verdict {
+    Verdict {
+        differs: what,
+        number: 0,
+        moves: 0,
+        bookmark: 0,
+        replies: [MARK; 32],
+    }
+}
+
+// How far each node's reader can have moved: to the end of its list; not at all in a run that is refused.
+fn bounds(number: u32, numbers: &[u32], ends: &[u32], packed: &[u8]) -> [u32; 48] {
+    if number == 0 {
+        return evaluator::lengths(numbers, ends, packed);
+    }
+    [0; 48]
+}
+
+// One run by both, into so many replies, at most 32: number, the whole reply row, bookmark, and the places within their bounds.
+fn run_both(
+    numbers: &[u32],
+    ends: &[u32],
+    packed: &[u8],
+    bookmark: u64,
+    codes: &[u8],
+    arguments: &[u32],
+    room: usize,
+) -> Verdict {
+    let n = room % 33;
+    let mut replies = [MARK; 32];
+    let r = engine::run(
+        numbers,
+        ends,
+        packed,
+        bookmark,
+        codes,
+        arguments,
+        &mut replies[0..n],
+    );
+    let mut others = [MARK; 32];
+    let other = evaluator::answer(
+        numbers,
+        ends,
+        packed,
+        bookmark,
+        codes,
+        arguments,
+        &mut others[0..n],
+    );
+    if r.number != other.number {
+        return failed(NUMBER);
+    }
+    if !same_replies(&replies, &others) {
+        return failed(REPLIES);
+    }
+    if r.bookmark != other.bookmark {
+        return failed(BOOKMARK);
+    }
+    let places = r.places;
+    if !are_places(places, bounds(r.number, numbers, ends, packed), r.moves) {
+        return failed(PLACES);
+    }
+    Verdict {
+        differs: 0,
+        number: r.number,
+        moves: r.moves,
+        bookmark: r.bookmark,
+        replies,
+    }
+}
+
+// The same calls in two runs, broken off before call k: whether their replies, one after the other, and the last bookmark are
+// those of the whole run, and the places of each within their bounds.
+fn breaks(
+    numbers: &[u32],
+    ends: &[u32],
+    packed: &[u8],
+    bookmark: u64,
+    codes: &[u8],
+    arguments: &[u32],
+    k: usize,
+    whole: &[u64; 32],
+    last: u64,
+) -> bool {
+    let mut one = [MARK; 32];
+    let first = engine::run(
+        numbers,
+        ends,
+        packed,
+        bookmark,
+        first_bytes(codes, k),
+        first_numbers(arguments, k),
+        &mut one,
+    );
+    let mut two = [MARK; 32];
+    let second = engine::run(
+        numbers,
+        ends,
+        packed,
+        first.bookmark,
+        last_bytes(codes, k),
+        last_numbers(arguments, k),
+        &mut two,
+    );
+    let bound = evaluator::lengths(numbers, ends, packed);
+    let first_places = first.places;
+    let second_places = second.places;
+    let placed = are_places(first_places, bound, first.moves)
+        && are_places(second_places, bound, second.moves);
+    let accepted = first.number == 0 && second.number == 0;
+    accepted && placed && second.bookmark == last && are_joined(whole, &one, &two, k)
+}
+
+// Whether the program's work lists every member that the evaluator draws by next, nothing behind them, and its moves are those of a
+// run of a next for each and one more; or is refused by the evaluator's number, with its row as it was.
+fn is_listed(numbers: &[u32], ends: &[u32], packed: &[u8], input: &[u8]) -> bool {
+    let mut members = [MARK_32; 512];
+    let listed = listing::list_members(input, &mut members);
+    if !rows::hold(&members, listed.count, MARK_32) {
+        return false;
+    }
+    let codes = [0u8; 513];
+    let zeros = [0u32; 513];
+    let nexts = listed.count % 513 + 1;
+    let mut replies = [MARK; 513];
+    let drawn = evaluator::answer(
+        numbers,
+        ends,
+        packed,
+        0,
+        first_bytes(&codes, nexts),
+        first_numbers(&zeros, nexts),
+        &mut replies,
+    );
+    if drawn.number != 0 {
+        return listed.number == drawn.number && listed.count == 0 && listed.moves == 0;
+    }
+    let same = are_members(&replies, first_numbers(&members, listed.count), FINISHED);
+    let r = engine::run(
+        numbers,
+        ends,
+        packed,
+        0,
+        first_bytes(&codes, nexts),
+        first_numbers(&zeros, nexts),
+        &mut replies,
+    );
+    listed.number == 0 && same && r.moves == listed.moves
+}
+
+// The program's input, the expression's length, the expression and the delivery, and whether it is listed.
+fn lists(numbers: &[u32], ends: &[u32], packed: &[u8], delivery: &[u8]) -> bool {
+    let mut input = [0u8; 5120];
+    let n = packed.len() % 256;
+    rows::lay(&mut input, 0, &[n as u8]);
+    rows::lay(&mut input, 1, packed);
+    rows::lay(&mut input, n + 1, delivery);
+    let size = n + 1 + delivery.len() % 4097;
+    is_listed(numbers, ends, packed, first_bytes(&input, size))
+}
+
+// A case's calls, by both, whole and broken off; then the program's list.
+fn compare_calls(
+    numbers: &[u32],
+    ends: &[u32],
+    packed: &[u8],
+    d: Delivery,
+    bookmark: u64,
+    c: Calls,
+    k: usize,
+) -> Verdict {
+    let codes = c.codes;
+    let run_codes = first_bytes(&codes, c.count);
+    let arguments = c.arguments;
+    let run_numbers = first_numbers(&arguments, c.count);
+    let bytes = d.bytes;
+    let delivery = first_bytes(&bytes, d.count);
+    let v = run_both(numbers, ends, packed, bookmark, run_codes, run_numbers, 32);
+    let whole = v.replies;
+    if v.differs != 0 {
+        return v;
+    }
+    if !breaks(
+        numbers,
+        ends,
+        packed,
+        bookmark,
+        run_codes,
+        run_numbers,
+        k,
+        &whole,
+        v.bookmark,
+    ) {
+        return failed(BROKEN);
+    }
+    if !lists(numbers, ends, packed, delivery) {
+        return failed(MEMBERS);
+    }
+    v
+}
+
+// A case's lists, packed expression and bookmark. Where it is damaged, a third of the cases have their expression damaged, a third
+// their lists, and any may have its bookmark damaged.
+pub struct Made {
+    pub lists: Lists,
+    pub expression: Bytes,
+    pub bookmark: u64,
+}
+
+fn worse_expression(case: u64, made: Bytes) -> Bytes {
+    if case % 3 == 0 {
+        return cases::damaged(case, made);
+    }
+    made
+}
+
+fn worse_lists(case: u64, made: Lists) -> Lists {
+    if case % 3 == 1 {
+        return cases::damaged_lists(case, made);
+    }
+    made
+}
+
+// The expression is packed by the engine; whether it reads back is compared beside it.
+fn packed_of(case: u64, lists: usize) -> Packed {
+    let e = cases::expression(case, lists);
+    let row = e.bytes;
+    stored::pack(first_bytes(&row, e.count), lists)
+}
+
+pub fn inputs(case: u64, damaged: bool) -> Made {
+    let lists = cases::lists(case);
+    let packed = packed_of(case, lists.count);
+    let expression = packed.expression;
+    let bookmark = cases::bookmark(case, lists);
+    if !damaged {
+        return Made {
+            lists,
+            expression,
+            bookmark,
+        };
+    }
+    Made {
+        lists: worse_lists(case, lists),
+        expression: worse_expression(case, expression),
+        bookmark: cases::bad_bookmark(case, bookmark),
+    }
+}
+
+// One case, all of it to be accepted.
+pub fn compare(case: u64) -> Verdict {
+    let l = cases::lists(case);
+    let packed = packed_of(case, l.count);
+    let x = packed.expression;
+    let bytes = x.bytes;
+    let expression = first_bytes(&bytes, x.count);
+    let numbers = l.numbers;
+    let used = first_numbers(&numbers, l.used);
+    let ends = l.ends;
+    let stops = first_numbers(&ends, l.count);
+    let d = stored::deliver(used, stops);
+    let c = cases::calls(case, l);
+    if !packed.same {
+        return failed(EXPRESSION);
+    }
+    if !d.same {
+        return failed(DELIVERY);
+    }
+    compare_calls(
+        used,
+        stops,
+        expression,
+        d,
+        cases::bookmark(case, l),
+        c,
+        cases::breaking(case, c.count),
+    )
+}
+
+// Some damaged cases have half as many numbers as codes, and some half as many places for replies.
+fn numbers_of(case: u64, count: usize) -> usize {
+    if case % 16 == 5 { count / 2 } else { count }
+}
+
+fn room_of(case: u64, count: usize) -> usize {
+    if case % 16 == 9 { count / 2 } else { 32 }
+}
+
+// Whether the program's work is right about a damaged expression, over a delivery of the case's own lists.
+fn lists_damaged(case: u64, expression: &[u8]) -> bool {
+    let l = cases::lists(case);
+    let numbers = l.numbers;
+    let used = first_numbers(&numbers, l.used);
+    let ends = l.ends;
+    let stops = first_numbers(&ends, l.count);
+    let d = stored::deliver(used, stops);
+    let bytes = d.bytes;
+    lists(used, stops, expression, first_bytes(&bytes, d.count))
+}
+
+// One case damaged: mostly to be refused, and by the same number.
+pub fn compare_damaged(case: u64) -> Verdict {
+    let made = inputs(case, true);
+    let x = made.expression;
+    let bytes = x.bytes;
+    let expression = first_bytes(&bytes, x.count);
+    let l = made.lists;
+    let numbers = l.numbers;
+    let used = first_numbers(&numbers, l.used);
+    let ends = l.ends;
+    let stops = first_numbers(&ends, l.count);
+    let c = cases::calls(case, cases::lists(case));
+    let codes = c.codes;
+    let run_codes = first_bytes(&codes, c.count);
+    let arguments = c.arguments;
+    let run_numbers = first_numbers(&arguments, numbers_of(case, c.count));
+    if !lists_damaged(case, expression) {
+        return failed(MEMBERS);
+    }
+    run_both(
+        used,
+        stops,
+        expression,
+        made.bookmark,
+        run_codes,
+        run_numbers,
+        room_of(case, c.count),
+    )
+}
