@@ -1,0 +1,55 @@
+-- `edges::given::codes` is safe and ends: each index is within its row. The measure is what is left of the range.
+use Prim.Native.Nat.{_≤_, _-_}
+use lib.ListN.{length}
+use borrow.Author.Needs.{needs}
+use Rattle.edges.proofs.given.codes.Statement.{statement}
+use Rattle.edges.proofs.given.codes.Tie as tie
+
+abbrev Inv-loop : tie.InvT-loop
+Inv-loop calls row₀ i₀ i-end row i = i-end ≤ length calls
+
+abbrev μ-loop : tie.MeasureT-loop
+μ-loop calls row₀ i₀ i-end row i = i-end - i
+
+loop-holds : tie.Need-loop-holds Inv-loop μ-loop
+loop-holds c = search needs
+
+mul-code-of : tie.Need-mul-code-of Inv-loop μ-loop
+mul-code-of c = search needs
+
+shared-slice-read-code-of : tie.Need-shared-slice-read-code-of Inv-loop μ-loop
+shared-slice-read-code-of c = search needs
+
+code-of-requires : tie.Need-code-of-requires Inv-loop μ-loop
+code-of-requires c κs = search needs
+
+array-write-row : tie.Need-array-write-row Inv-loop μ-loop
+array-write-row c = search needs
+
+add-i : tie.Need-add-i Inv-loop μ-loop
+add-i c = search needs
+
+loop-less : tie.Need-loop-less Inv-loop μ-loop
+loop-less c = search needs
+
+loop-again : tie.Need-loop-again Inv-loop μ-loop
+loop-again c = search needs
+
+returns : tie.Need-returns Inv-loop μ-loop
+returns c = search needs
+
+pub codes-spec : {M : Type 1} → statement M
+codes-spec =
+    tie.close
+    (tie.spec
+    Inv-loop
+    μ-loop
+    loop-holds
+    mul-code-of
+    shared-slice-read-code-of
+    code-of-requires
+    array-write-row
+    add-i
+    loop-less
+    loop-again
+    returns)

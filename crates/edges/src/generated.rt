@@ -1,0 +1,221 @@
+// The generated cases: how many came out alike by engine and second evaluator, and what they replied in all. One that did not is
+// printed whole.
+use crate::text;
+use cases::Calls;
+use cases::Lists;
+use cases::first_bytes;
+use cases::first_numbers;
+use compare::Verdict;
+ghost use Prim.Native.Nat.{_<_};
+
+// What the cases of one kind came to: the calls' replies by kind, the runs' moves, the runs by their number.
+struct Totals {
+    differ: u64,
+    members: u64,
+    finished: u64,
+    yes: u64,
+    no: u64,
+    unknown: u64,
+    moves: u64,
+    numbers: [u64; 15],
+}
+
+fn none() -> Totals {
+    Totals {
+        differ: 0,
+        members: 0,
+        finished: 0,
+        yes: 0,
+        no: 0,
+        unknown: 0,
+        moves: 0,
+        numbers: [0; 15],
+    }
+}
+
+fn more(n: u64, by: u64) -> u64 {
+    std::num::wrapping_add_u64(n, by)
+}
+
+// One reply more; a place behind the last reply holds another number.
+fn with_reply(t: Totals, reply: u64) -> Totals {
+    let mut sum = t;
+    if reply < 4294967296 {
+        sum.members = more(t.members, 1);
+        return sum;
+    }
+    match reply {
+        4294967296 => sum.no = more(t.no, 1),
+        4294967297 => sum.yes = more(t.yes, 1),
+        4294967298 => sum.finished = more(t.finished, 1),
+        4294967299 => sum.unknown = more(t.unknown, 1),
+        _ => {}
+    }
+    sum
+}
+
+fn with_replies(t: Totals, replies: [u64; 32]) -> Totals {
+    let mut sum = t;
+    let mut i: usize = 0;
+    while i < 32 {
+        sum = with_reply(sum, replies[i]);
+        i += 1;
+    }
+    sum
+}
+
+fn index(number: u32) -> usize
+    ensures { λ r. ⌜ r < 15 ⌝ }
+{
+    (number % 15) as usize
+}
+
+fn with_run(t: Totals, v: Verdict) -> Totals {
+    let replies = v.replies;
+    let mut sum = with_replies(t, replies);
+    sum.moves = more(t.moves, text::wide_32(v.moves));
+    let at = index(v.number);
+    sum.numbers[at] = more(t.numbers[at], 1);
+    if v.differs != 0 {
+        sum.differ = more(t.differ, 1);
+    }
+    sum
+}
+
+// What came out differently, by the number that `compare` gives it.
+fn what(differs: u32) {
+    match differs {
+        1 => text::put(b"the expression's stored forms"),
+        2 => text::put(b"the delivery"),
+        3 => text::put(b"the number"),
+        4 => text::put(b"the replies"),
+        5 => text::put(b"the bookmark"),
+        6 => text::put(b"the places or moves"),
+        7 => text::put(b"the run broken off"),
+        _ => text::put(b"the program's list"),
+    }
+}
+
+fn all_numbers(row: &[u32]) {
+    for i in 0..row.len() {
+        text::spaced(text::wide_32(row[i]));
+    }
+}
+
+fn show_lists(l: Lists) {
+    let numbers = l.numbers;
+    text::put(b": numbers");
+    all_numbers(first_numbers(&numbers, l.used));
+    let ends = l.ends;
+    text::put(b", ends");
+    all_numbers(first_numbers(&ends, l.count));
+}
+
+fn show_calls(c: Calls) {
+    let codes = c.codes;
+    text::put(b", codes");
+    text::nodes(first_bytes(&codes, c.count));
+    let arguments = c.arguments;
+    text::put(b", arguments");
+    all_numbers(first_numbers(&arguments, c.count));
+}
+
+// A case, whole.
+fn show(case: u64, damaged: bool, differs: u32) {
+    text::put(b"case ");
+    text::number(case);
+    text::put(b" differs in ");
+    what(differs);
+    let made = compare::inputs(case, damaged);
+    let l = made.lists;
+    show_lists(l);
+    let x = made.expression;
+    let bytes = x.bytes;
+    text::put(b", packed");
+    text::bytes(first_bytes(&bytes, x.count));
+    text::put(b", bookmark ");
+    text::number(made.bookmark);
+    let c = cases::calls(case, cases::lists(case));
+    show_calls(c);
+    text::put(b", broken off before call ");
+    text::number(text::wide(cases::breaking(case, c.count)));
+    text::end();
+}
+
+fn verdict(case: u64, damaged: bool) -> Verdict {
+    if damaged {
+        return compare::compare_damaged(case);
+    }
+    compare::compare(case)
+}
+
+fn compared(case: u64, damaged: bool) -> Verdict {
+    let v = verdict(case, damaged);
+    if v.differs != 0 {
+        show(case, damaged, v.differs);
+    }
+    v
+}
+
+// The cases 0 to `count`, that one excluded.
+fn sum(count: u64, damaged: bool) -> Totals {
+    let mut t = none();
+    let mut case: u64 = 0;
+    while case < count {
+        t = with_run(t, compared(case, damaged));
+        case += 1;
+    }
+    t
+}
+
+fn item(n: u64, name: &[u8]) {
+    text::put(b", ");
+    text::number(n);
+    text::put(name);
+}
+
+fn head(name: &[u8], count: u64, differ: u64) {
+    text::put(name);
+    text::number(count);
+    text::put(b" cases, ");
+    text::number(differ);
+    text::put(b" differ");
+}
+
+// How many runs each number came to.
+fn print_numbers(numbers: [u64; 15]) {
+    let mut n: usize = 0;
+    while n < 15 {
+        if numbers[n] != 0 {
+            by_number(n, numbers[n]);
+        }
+        n += 1;
+    }
+}
+
+fn by_number(n: usize, count: u64) {
+    text::put(b"; number ");
+    text::number(text::wide(n));
+    text::put(b" ");
+    text::number(count);
+    text::put(b" times");
+}
+
+fn print(name: &[u8], count: u64, damaged: bool) {
+    let t = sum(count, damaged);
+    head(name, count, t.differ);
+    item(t.members, b" members");
+    item(t.finished, b" finished");
+    item(t.yes, b" yes");
+    item(t.no, b" no");
+    item(t.unknown, b" unknown");
+    item(t.moves, b" moves");
+    let numbers = t.numbers;
+    print_numbers(numbers);
+    text::end();
+}
+
+pub fn all() {
+    print(b"generated, ", 100000, false);
+    print(b"damaged, ", 50000, true);
+}

@@ -1,0 +1,24 @@
+// A row of numbers for a list of the greatest length, and of one more; and an input with zero bytes behind it.
+use crate::text;
+
+fn narrow(x: u64) -> u32 {
+    (x % 4294967296) as u32
+}
+
+// The numbers 0 to 65,535.
+pub fn ramp() -> [u32; 65536] {
+    let mut row = [0u32; 65536];
+    for i in 0..65536 {
+        row[i] = narrow(text::wide(i));
+    }
+    row
+}
+
+// The first 80 bytes, and 65,536 zeros behind them.
+pub fn padded(s: &[u8]) -> [u8; 65616] {
+    let mut row = [0u8; 65616];
+    for i in 0..s.len() {
+        row[i % 80] = s[i];
+    }
+    row
+}

@@ -1,0 +1,202 @@
+// A run as one case: what is handed in, each call with its reply, and what is handed back.
+use crate::given;
+use crate::marks;
+use crate::text;
+use model::Ran;
+
+// A run of lists, an expression in row form and calls.
+pub fn run_from(
+    cases: &mut u32,
+    name: &[u8],
+    lists: &[u64],
+    nodes: &[u8],
+    bookmark: u64,
+    calls: &[u64],
+) {
+    let given_numbers = given::numbers(lists);
+    let number_row = given_numbers.row;
+    let given_ends = given::ends(lists);
+    let end_row = given_ends.row;
+    let numbers = marks::front_32(&number_row, given_numbers.count);
+    let ends = marks::front_32(&end_row, given_ends.count);
+    text::begin(cases, name);
+    text::put(b",");
+    text::lists(numbers, ends);
+    if bookmark != 0 {
+        text::with(b", bookmark ", bookmark);
+    }
+    of_calls(numbers, ends, nodes, bookmark, calls);
+}
+
+fn of_calls(numbers: &[u32], ends: &[u32], nodes: &[u8], bookmark: u64, calls: &[u64]) {
+    let given_codes = given::codes(calls);
+    let code_row = given_codes.row;
+    let given_arguments = given::arguments(calls);
+    let argument_row = given_arguments.row;
+    let given_packed = given::packed(nodes, ends.len());
+    let packed_row = given_packed.row;
+    let codes = marks::front_8(&code_row, given_codes.count);
+    let arguments = marks::front_32(&argument_row, given_arguments.count);
+    let packed = marks::front_8(&packed_row, given_packed.count);
+    outcome(numbers, ends, packed, bookmark, codes, arguments, 64);
+}
+
+// A run of the rows themselves, with a reply row of so many elements, at most 64.
+pub fn run_rows(
+    cases: &mut u32,
+    name: &[u8],
+    numbers: &[u32],
+    ends: &[u32],
+    packed: &[u8],
+    bookmark: u64,
+    codes: &[u8],
+    arguments: &[u32],
+    room: usize,
+) {
+    text::begin(cases, name);
+    text::put(b", run");
+    text::lent(numbers, ends);
+    text::put(b", packed");
+    text::bytes(packed);
+    text::with(b", bookmark ", bookmark);
+    text::put(b", codes");
+    text::nodes(codes);
+    text::put(b", arguments");
+    text::numbers(arguments);
+    text::with(b", replies ", text::wide(room));
+    outcome(numbers, ends, packed, bookmark, codes, arguments, room);
+}
+
+// The run, the rest of its line, and whether it left the reply row behind its replies alone.
+fn outcome(
+    numbers: &[u32],
+    ends: &[u32],
+    packed: &[u8],
+    bookmark: u64,
+    codes: &[u8],
+    arguments: &[u32],
+    room: usize,
+) {
+    let mut replies = [text::MARK_64; 64];
+    let n = room % 65;
+    let ran = engine::run(
+        numbers,
+        ends,
+        packed,
+        bookmark,
+        codes,
+        arguments,
+        &mut replies[0..n],
+    );
+    text::put(b": ");
+    if ran.number == 0 {
+        let nodes = node_count(packed, ends.len());
+        replied(codes, arguments, &replies);
+        handed_back(ran, nodes);
+        changed(&replies, codes.len());
+    } else {
+        text::refused(ran.number, other_parts_zero(ran));
+        changed(&replies, 0);
+    }
+    text::end();
+}
+
+fn changed(replies: &[u64; 64], from: usize) {
+    text::rows(marks::hold_64(replies, from));
+}
+
+// How many nodes a packed expression has.
+fn node_count(packed: &[u8], lists: usize) -> usize {
+    let mut row = [0u8; 48];
+    forms::unpack_expression(packed, lists, &mut row).count
+}
+
+fn other_parts_zero(ran: Ran) -> bool {
+    let places = ran.places;
+    if ran.moves != 0 {
+        return false;
+    }
+    if ran.bookmark != 0 {
+        return false;
+    }
+    sum(&places, 0) == 0
+}
+
+// The sum of the places from a node on.
+fn sum(places: &[u16], from: usize) -> u64 {
+    let mut total: u64 = 0;
+    for i in from..places.len() {
+        total = std::num::wrapping_add_u64(total, text::wide_16(places[i]));
+    }
+    total
+}
+
+fn replied(codes: &[u8], arguments: &[u32], replies: &[u64; 64]) {
+    if codes.len() == 0 {
+        text::put(b"no call");
+    }
+    each_call(codes, arguments, replies);
+}
+
+fn each_call(codes: &[u8], arguments: &[u32], replies: &[u64]) {
+    for i in 0..codes.len() {
+        if i < arguments.len() {
+            call(i, codes[i], arguments[i]);
+        }
+        if i < replies.len() {
+            reply(replies[i]);
+        }
+    }
+}
+
+fn call(i: usize, code: u8, d: u32) {
+    if 0 < i {
+        text::put(b", ");
+    }
+    match code {
+        0 => text::put(b"next"),
+        1 => text::with(b"at or past ", text::wide_32(d)),
+        2 => text::with(b"past ", text::wide_32(d)),
+        3 => text::with(b"check ", text::wide_32(d)),
+        _ => text::with(b"code ", text::wide_8(code)),
+    }
+    text::put(b" -> ");
+}
+
+// A reply by the paper's numbers for it; any other number is no reply.
+fn reply(r: u64) {
+    if r < 4294967296 {
+        text::number(r);
+        return;
+    }
+    match r {
+        4294967296 => text::put(b"no"),
+        4294967297 => text::put(b"yes"),
+        4294967298 => text::put(b"finished"),
+        4294967299 => text::put(b"unknown"),
+        _ => text::with(b"no reply, but ", r),
+    }
+}
+
+// The bookmark, the moves, and the places of the nodes that there are.
+fn handed_back(ran: Ran, nodes: usize) {
+    let places = ran.places;
+    text::with(b"; bookmark ", ran.bookmark);
+    text::with(b", moves ", text::wide_32(ran.moves));
+    text::put(b", places");
+    first_places(&places, nodes);
+    if sum(&places, nodes) != 0 {
+        text::put(b", a place behind the nodes is not 0");
+    }
+    if sum(&places, 0) != text::wide_32(ran.moves) {
+        text::put(b", the moves are not the sum of the places");
+    }
+}
+
+fn first_places(places: &[u16], nodes: usize) {
+    for i in 0..places.len() {
+        if i < nodes {
+            text::spaced(text::wide_16(places[i]));
+        }
+    }
+}

@@ -1,0 +1,146 @@
+// The stored forms and the lent lists, a call for each case: what is handed in and what comes back.
+use crate::marks;
+use crate::text;
+use model::Delivered;
+
+// A packed expression to its row form, in a row of so many nodes, at most 64.
+pub fn unpack(cases: &mut u32, name: &[u8], bytes: &[u8], lists: usize, room: usize) {
+    let mut row = [text::MARK; 80];
+    let n = room % 65;
+    let w = forms::unpack_expression(bytes, lists, &mut row[0..n]);
+    text::begin(cases, name);
+    text::put(b", unpack");
+    text::bytes(bytes);
+    with_lists(lists, room);
+    written_nodes(w.number, w.count, &row);
+}
+
+fn written_nodes(number: u32, count: usize, row: &[u8; 80]) {
+    if number == 0 {
+        text::counted(count, b"node");
+        text::nodes(marks::front_8(row, count));
+    } else {
+        text::refused(number, count == 0);
+    }
+    changed(row, count);
+}
+
+// A row to its packed form, in so many bytes, at most 64.
+pub fn pack(cases: &mut u32, name: &[u8], nodes: &[u8], lists: usize, room: usize) {
+    let mut row = [text::MARK; 80];
+    let n = room % 65;
+    let w = forms::pack_expression(nodes, lists, &mut row[0..n]);
+    text::begin(cases, name);
+    text::put(b", pack");
+    text::nodes(nodes);
+    with_lists(lists, room);
+    written_bytes(w.number, w.count, &row);
+}
+
+// Lists as a delivery, in so many bytes, at most 64.
+pub fn encode(cases: &mut u32, name: &[u8], numbers: &[u32], ends: &[u32], room: usize) {
+    let mut row = [text::MARK; 80];
+    let n = room % 65;
+    let w = encode::encode_delivery(numbers, ends, &mut row[0..n]);
+    text::begin(cases, name);
+    text::put(b", encode");
+    text::lent(numbers, ends);
+    into(room);
+    written_bytes(w.number, w.count, &row);
+}
+
+fn with_lists(lists: usize, room: usize) {
+    text::put(b", ");
+    text::counted(lists, b"list");
+    into(room);
+}
+
+fn into(room: usize) {
+    text::with(b", into ", text::wide(room));
+    text::put(b": ");
+}
+
+fn written_bytes(number: u32, count: usize, row: &[u8; 80]) {
+    if number == 0 {
+        text::counted(count, b"byte");
+        text::bytes(marks::front_8(row, count));
+    } else {
+        text::refused(number, count == 0);
+    }
+    changed(row, count);
+}
+
+// The end of a line: the row behind what was written holds what it held.
+fn changed(row: &[u8; 80], from: usize) {
+    text::rows(marks::hold_8(row, from));
+    text::end();
+}
+
+// A delivery, into so many numbers and so many ends, at most 64 each.
+pub fn decode(cases: &mut u32, name: &[u8], bytes: &[u8], number_room: usize, end_room: usize) {
+    let mut numbers = [text::MARK_32; 80];
+    let mut ends = [text::MARK_32; 80];
+    let n = number_room % 65;
+    let k = end_room % 65;
+    let d = decode::decode_delivery(bytes, &mut numbers[0..n], &mut ends[0..k]);
+    text::begin(cases, name);
+    text::put(b", decode");
+    text::bytes(bytes);
+    into_both(number_room, end_room);
+    delivered(d, &numbers, &ends);
+}
+
+fn into_both(number_room: usize, end_room: usize) {
+    text::put(b", into ");
+    text::counted(number_room, b"number");
+    text::put(b" and ");
+    text::counted(end_room, b"end");
+    text::put(b": ");
+}
+
+fn delivered(d: Delivered, numbers: &[u32; 80], ends: &[u32; 80]) {
+    if d.number == 0 {
+        text::counted(d.lists, b"list");
+        text::put(b", ");
+        text::counted(d.numbers, b"number");
+        let row = marks::front_32(numbers, d.numbers);
+        text::lists(row, marks::front_32(ends, d.lists));
+    } else {
+        text::refused(d.number, d.lists == 0 && d.numbers == 0);
+    }
+    text::rows(marks::hold_32(numbers, d.numbers) && marks::hold_32(ends, d.lists));
+    text::end();
+}
+
+// The tests of lent lists.
+pub fn test(cases: &mut u32, name: &[u8], numbers: &[u32], ends: &[u32]) {
+    let number = lists::test_lists(numbers, ends);
+    text::begin(cases, name);
+    text::put(b", test");
+    text::lent(numbers, ends);
+    text::put(b": ");
+    if number == 0 {
+        text::put(b"accepted");
+    } else {
+        text::refused(number, true);
+    }
+    text::end();
+}
+
+// The part of one list, and where it stands.
+pub fn part(cases: &mut u32, name: &[u8], numbers: &[u32], ends: &[u32], k: usize) {
+    let span = lists::list_span(numbers, ends, k);
+    let part = lists::list_part(numbers, ends, k);
+    text::begin(cases, name);
+    text::with(b", list ", text::wide(k));
+    text::put(b" of");
+    text::lent(numbers, ends);
+    text::put(b": ");
+    text::counted(part.len(), b"number");
+    text::numbers(part);
+    text::with(b", from place ", text::wide(span.start));
+    if span.size != part.len() {
+        text::put(b", a span of another length");
+    }
+    text::end();
+}
