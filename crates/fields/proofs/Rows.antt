@@ -55,13 +55,13 @@ module _ {A : Type 0} where
   pub lay-cons : (row : List A) (i : ℕ) (x : A) (xs : List A) → i < length row → lay row i (x ∷ xs) ≡ lay (set row i x) (i + 1) xs
   lay-cons row i x xs h = sym (lay-append row i (x ∷ []) xs (omega arith)) ∙ ap (λ (r : List A). lay r (i + 1) xs) (sym (lay-set row i x h))
 
-  -- a row copied element by element: one more, and the last
-  pub lay-copied : (row from : List A) (i : ℕ) (x : A) → i < length from → i < length row → lay (set row i (getD from i x)) (i + 1) (drop (i + 1) from) ≡ lay row i (drop i from)
-  lay-copied row from i x h l =
-      sym (ap (lay row i) (drop-cons from i x h ∙ ap (λ (k : ℕ). getD from i x ∷ drop k from) (sym (add-one i))) ∙ lay-cons row i (getD from i x) (drop (i + 1) from) l)
+  -- elements copied one by one into a row from k on: one more, and none left
+  pub lay-copied : (row from : List A) (k i : ℕ) (x : A) → i < length from → k < length row → lay (set row k (getD from i x)) (k + 1) (drop (i + 1) from) ≡ lay row k (drop i from)
+  lay-copied row from k i x h l =
+      sym (ap (lay row k) (drop-cons from i x h ∙ ap (λ (n : ℕ). getD from i x ∷ drop n from) (sym (add-one i))) ∙ lay-cons row k (getD from i x) (drop (i + 1) from) l)
 
-  pub lay-all : (row from : List A) (i : ℕ) → length from ≤ i → row ≡ lay row i (drop i from)
-  lay-all row from i h = sym (ap (lay row i) (drop-of-length-le from h) ∙ lay-nil row i)
+  pub lay-all : (row from : List A) (k i : ℕ) → length from ≤ i → row ≡ lay row k (drop i from)
+  lay-all row from k i h = sym (ap (lay row k) (drop-of-length-le from h) ∙ lay-nil row k)
 
   -- what stood there may be laid again around what is new
   pub lay-around : (row : List A) (at a b : ℕ) (xs : List A) → at + a + length xs + b ≤ length row

@@ -3,7 +3,6 @@ ghost use mathlib.Core.Path.{_≡_};
 ghost use Prim.Native.Nat.{_≤_};
 ghost use lib.ListN.{length};
 ghost use Rattle.model.specs.Lists.{top, lists-from};
-ghost use Rattle.model.specs.Sets.{all-numbers};
 ghost use Rattle.model.specs.Calls.{counted};
 ghost use Rattle.model.specs.Program.{list-members};
 ghost use Rattle.fields.specs.Rows.{lay};

@@ -11,7 +11,7 @@ use lib.Dec.{ltb}
 use lib.ListN.{length, getD, take, drop, set, length-append, drop-of-length-le}
 use lib.Seq.{drop-cons}
 use Rattle.fields.specs.Rows.{lay}
-use Rattle.fields.proofs.Rows.{lay-nil, lay-cons, lay-append, lay-take}
+use Rattle.fields.proofs.Rows.{lay-copied, lay-append, lay-take}
 use Rattle.report.specs.Text.{digits, decimal, line, lines}
 
 -- ---- a word
@@ -19,15 +19,8 @@ use Rattle.report.specs.Text.{digits, decimal, line, lines}
 -- one byte more of a word that is copied to `at`
 pub lay-next : (row from : List ℕ) (at i : ℕ) → i < length from → at + i < length row → lay (set row (at + i) (getD from i 0)) (at + (i + 1)) (drop (i + 1) from) ≡ lay row (at + i) (drop i from)
 lay-next row from at i h l =
-    let x : ℕ = getD from i 0 in
     let on : at + (i + 1) ≡ at + i + 1 = omega arith in
-    ap (λ (k : ℕ). lay (set row (at + i) x) k (drop (i + 1) from)) on
-    ∙ sym (lay-cons row (at + i) x (drop (i + 1) from) l)
-    ∙ ap (lay row (at + i)) (sym (drop-cons from i 0 h ∙ ap (λ (k : ℕ). x ∷ drop k from) (sym (add-one i))))
-
--- and the last
-pub lay-done : (row from : List ℕ) (at i : ℕ) → length from ≤ i → row ≡ lay row at (drop i from)
-lay-done row from at i h = sym (ap (lay row at) (drop-of-length-le from h) ∙ lay-nil row at)
+    ap (λ (k : ℕ). lay (set row (at + i) (getD from i 0)) k (drop (i + 1) from)) on ∙ lay-copied row from (at + i) i 0 h l
 
 -- one piece behind another
 pub lay-then : (row first last : List ℕ) (at end : ℕ) (xs ys zs : List ℕ) → at ≤ length row → first ≡ lay row at xs → end ≡ at + length xs → last ≡ lay first end ys → zs ≡ xs ++ ys → last ≡ lay row at zs

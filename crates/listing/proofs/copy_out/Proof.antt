@@ -42,13 +42,13 @@ loop-again : tie.Need-loop-again Inv-loop μ-loop
 loop-again c =
     let l = c .before .before .loop in
     let from : List ℕ = c .before .before .before .args .from .now in
-    (omega arith, length-set (l .lent) (l .i) (getD from (l .i) 0) ∙ l .inv .1, lay-copied (l .lent) from (l .i) 0 (omega arith) (omega arith) ∙ l .inv .2)
+    (omega arith, length-set (l .lent) (l .i) (getD from (l .i) 0) ∙ l .inv .1, lay-copied (l .lent) from (l .i) (l .i) 0 (omega arith) (omega arith) ∙ l .inv .2)
 
 same-length : tie.Need-same-length Inv-loop μ-loop
 same-length c = search needs
 
 returns : tie.Need-returns Inv-loop μ-loop
-returns c = let l = c .before .loop in lay-all (l .lent) (c .before .before .args .from .now) (l .i) (omega arith) ∙ l .inv .2
+returns c = let l = c .before .loop in lay-all (l .lent) (c .before .before .args .from .now) (l .i) (l .i) (omega arith) ∙ l .inv .2
 
 pub copy-out-spec : {M : Type 1} → statement M
 copy-out-spec =

@@ -8,7 +8,8 @@ use native.Mathlib.Omega.{arith}
 use borrow.Author.Needs.{needs}
 use lib.ListN.{length, getD, drop, length-set}
 use Rattle.fields.specs.Rows.{lay}
-use Rattle.report.proofs.Text.{lay-next, lay-done}
+use Rattle.fields.proofs.Rows.{lay-all}
+use Rattle.report.proofs.Text.{lay-next}
 use Rattle.report.proofs.put_word.Statement.{statement}
 use Rattle.report.proofs.put_word.Tie as tie
 
@@ -53,7 +54,7 @@ returns : tie.Need-returns Inv-loop μ-loop
 returns c =
     let l = c .before .loop in
     let a = c .before .before .args in
-    (omega arith, lay-done (l .out) (a .word .now) (a .at + l .i) (l .i) (omega arith) ∙ l .inv .2)
+    (omega arith, lay-all (l .out) (a .word .now) (a .at + l .i) (l .i) (omega arith) ∙ l .inv .2)
 
 pub put-word-spec : {M : Type 1} → statement M
 put-word-spec =
