@@ -21,6 +21,7 @@ pub enum Reply {
 }
 
 // What a call that writes into one lent row hands back: the number of a refusal or 0, and how many elements it wrote.
+#[repr(C)]
 pub struct Written {
     pub number: u32,
     pub count: usize,
@@ -36,6 +37,7 @@ impl Written {
 }
 
 // What reading a delivery hands back: the number of a refusal or 0, how many lists, and how many numbers in all of them.
+#[repr(C)]
 pub struct Delivered {
     pub number: u32,
     pub lists: usize,
@@ -56,6 +58,7 @@ impl Delivered {
 }
 
 // What a run hands back: the number of a refusal or 0, the moves, the place of each node's reader, and the bookmark.
+#[repr(C)]
 pub struct Ran {
     pub number: u32,
     pub moves: u32,

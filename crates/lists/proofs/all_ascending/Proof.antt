@@ -6,10 +6,9 @@ use mathlib.Core.List.{List}
 use Prim.Native.Nat.{ℕ, _-_, _≤_}
 use native.Mathlib.Omega.{arith}
 use borrow.Author.Needs.{needs}
+use borrow.Author.Tests.{not-true, not-false}
 use lib.ListN.{length, getD, take, drop}
-use Rattle.model.specs.Lists.{all-ascending, part, lists-from, ends-hold}
-use Rattle.lists.specs.Rise.{rise, rise-says}
-use Rattle.lists.proofs.Rises.{ascends, falls}
+use Rattle.model.specs.Lists.{ascending, all-ascending, part, lists-from, ends-hold}
 use Rattle.lists.proofs.Ends.{Next, hold-next, lists-fall, lists-more, lists-end}
 use Rattle.lists.proofs.all_ascending.Statement.{statement}
 use Rattle.lists.proofs.all_ascending.Tie as tie
@@ -41,43 +40,37 @@ next c =
     let l = at-loop .loop in
     hold-next (length (args .numbers .now)) (l .start) (args .ends .now) (l .i) (omega arith) (l .inv .1)
 
-mul-rise-of : tie.Need-mul-rise-of Inv-loop μ-loop
-mul-rise-of c = let n = next c in search needs
+mul-ascends : tie.Need-mul-ascends Inv-loop μ-loop
+mul-ascends c = let n = next c in search needs
 
-sub-rise-of : tie.Need-sub-rise-of Inv-loop μ-loop
-sub-rise-of c = let n = next c in omega arith
+sub-ascends : tie.Need-sub-ascends Inv-loop μ-loop
+sub-ascends c = let n = next c in omega arith
 
-part-rise-of-start : tie.Need-part-rise-of-start Inv-loop μ-loop
-part-rise-of-start c = let n = next c in omega arith
+part-ascends-start : tie.Need-part-ascends-start Inv-loop μ-loop
+part-ascends-start c = let n = next c in omega arith
 
-part-rise-of-end : tie.Need-part-rise-of-end Inv-loop μ-loop
-part-rise-of-end c = let n = next c in omega arith
+part-ascends-end : tie.Need-part-ascends-end Inv-loop μ-loop
+part-ascends-end c = let n = next c in omega arith
 
-rise-of-requires : tie.Need-rise-of-requires Inv-loop μ-loop
-rise-of-requires c κs = search needs
-
-enum-told : tie.Need-enum-told Inv-loop μ-loop
-enum-told c = search needs
-
-enum-told-2 : tie.Need-enum-told-2 Inv-loop μ-loop
-enum-told-2 c = search needs
+ascends-requires : tie.Need-ascends-requires Inv-loop μ-loop
+ascends-requires c κs = search needs
 
 -- what the pass over this turn's list answered
-heard : (c : tie.After-rise-of Inv-loop μ-loop) → let at-loop = c .before .before .before .before .before in let args = at-loop .before .before .before .args in
-    rise-says (c .rise-of .result) ≡ rise (part (args .numbers .now) (at-loop .loop .start) (getD (args .ends .now) (at-loop .loop .i) 0))
+heard : (c : tie.After-ascends Inv-loop μ-loop) → let at-loop = c .before .before .before .before .before in let args = at-loop .before .before .before .args in
+    c .ascends .result ≡ ascending (part (args .numbers .now) (at-loop .loop .start) (getD (args .ends .now) (at-loop .loop .i) 0))
 unfolding part
 heard c =
     let at-loop = c .before .before .before .before .before in
     let numbers : List ℕ = at-loop .before .before .before .args .numbers .now in
     let start : ℕ = at-loop .loop .start in
-    c .rise-of .ensures ∙ ap (λ (n : ℕ). rise (take (n - start) (drop start numbers))) (c .before .before .wide .ensures)
+    c .ascends .ensures ∙ ap (λ (n : ℕ). ascending (take (n - start) (drop start numbers))) (c .before .before .wide .ensures)
 
 returns : tie.Need-returns Inv-loop μ-loop
 returns c =
-    let at-loop = c .before .before .before .before .before .before .before in
+    let at-loop = c .before .before .before .before .before .before in
     let args = at-loop .before .before .before .args in
     let l = at-loop .loop in
-    let told = falls _ (sym (ap rise-says (c .enum-told2 .given .1)) ∙ heard (c .before .before)) in
+    let told = sym (heard (c .before)) ∙ not-true _ (c .if1 .taken) in
     sym (l .inv .2 ∙ lists-fall (args .numbers .now) (l .start) (args .ends .now) (l .i) (omega arith) told)
 
 add-i : tie.Need-add-i Inv-loop μ-loop
@@ -88,15 +81,15 @@ loop-less c = search needs
 
 loop-again : tie.Need-loop-again Inv-loop μ-loop
 loop-again c =
-    let at-loop = c .before .before .before .before .before .before .before in
+    let at-loop = c .before .before .before .before .before .before in
     let args = at-loop .before .before .before .args in
     let numbers : List ℕ = args .numbers .now in
     let ends : List ℕ = args .ends .now in
     let l = at-loop .loop in
-    let stop : getD ends (l .i) 0 ≡ c .before .before .before .before .wide .result = sym (c .before .before .before .before .wide .ensures) in
-    let told = ascends _ _ (sym (ap rise-says (c .enum-told .given .1)) ∙ heard (c .before .before)) in (
+    let stop : getD ends (l .i) 0 ≡ c .before .before .before .wide .result = sym (c .before .before .before .wide .ensures) in
+    let told = sym (heard (c .before)) ∙ not-false _ (c .if1 .left) in (
       omega arith,
-      rw (← stop) (next (c .before .before .before .before) .rest),
+      rw (← stop) (next (c .before .before .before) .rest),
       rw (← stop) (l .inv .2 ∙ lists-more numbers (l .start) ends (l .i) (omega arith) told),
     )
 
@@ -117,13 +110,11 @@ all-ascending-spec =
     mul-wide
     shared-slice-read-wide
     wide-requires
-    mul-rise-of
-    sub-rise-of
-    part-rise-of-start
-    part-rise-of-end
-    rise-of-requires
-    enum-told
-    enum-told-2
+    mul-ascends
+    sub-ascends
+    part-ascends-start
+    part-ascends-end
+    ascends-requires
     returns
     add-i
     loop-less
