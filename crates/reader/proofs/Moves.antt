@@ -2,19 +2,20 @@
 use mathlib.Core.Path.{_≡_, refl, sym, ap, _∙_}
 use mathlib.Core.Bool.{Bool, true, false}
 use mathlib.Core.List.{List, [], _∷_}
-use Prim.Native.Nat.{ℕ, suc, _+_, _-_, _*_, _≤_, _<_}
+use Prim.Native.Nat.{ℕ, zero, suc, _+_, _-_, _*_, _≤_, _<_}
 use native.Mathlib.Omega.{arith}
 use native.Mathlib.Numerals.{add-one}
 use borrow.Author.Tests.{lt-ltb, le-ltb, ltb-false}
 use lib.Dec.{ltb}
-use lib.ListN.{length, getD, set, drop, drop-of-length-le, length-drop}
+use lib.ListN.{replicate, length, length-set, getD, set, drop, drop-of-length-le, length-drop}
 use lib.Seq.{drop-cons, getD-drop}
 use Rattle.model.specs.Lists.{top}
 use Rattle.model.specs.Steps.{Readers, at, passed, answer, read}
 use Rattle.model.specs.Demands.{sum}
 use Rattle.model.proofs.Seek.{passed-on, passed-off}
 use Rattle.model.proofs.Places.{passed-le, sum-set}
-use Rattle.reader.specs.Sought.{found}
+use Rattle.reader.specs.declared.Readers.{Readers as Kept}
+use Rattle.reader.specs.Sought.{found, Tallied}
 use Rattle.reader.proofs.Answers.{found-at, found-end}
 
 -- ---- one turn, at a place of the list
@@ -47,9 +48,30 @@ unfolding sum
 sum-bound [] most h = omega arith
 sum-bound (p ∷ ps) most h = omega (arith, h 0, sum-bound ps most (λ i. h (suc i)))
 
+-- an element set to at most the bound keeps it
+below-set : (ps : List ℕ) (i x most j : ℕ) → x ≤ most → getD ps j 0 ≤ most → getD (set ps i x) j 0 ≤ most
+below-set [] i x most j h k = k
+below-set (p ∷ ps) zero x most zero h k = h
+below-set (p ∷ ps) zero x most (suc j) h k = k
+below-set (p ∷ ps) (suc i) x most zero h k = k
+below-set (p ∷ ps) (suc i) x most (suc j) h k = below-set ps i x most j h k
+
 -- the readers after the node i has moved to a place
 abbrev pub after : Readers → ℕ → ℕ → Readers
 after rs i place = record { places = set (rs .places) i place; moves = rs .moves + (place - getD (rs .places) i 0) }
+
+-- no reader has moved
+none-there : (n i : ℕ) → getD (replicate n 0) i 0 ≤ 0
+none-there zero i = omega arith
+none-there (suc n) zero = omega arith
+none-there (suc n) (suc i) = none-there n i
+
+pub none-moved : Tallied (record { places = replicate 48 0; moves = 0 })
+none-moved = record { many = refl; small = λ i. omega (arith, none-there 48 i); within = omega arith }
+
+-- the same record as the code has it
+abbrev kept : Readers → Kept
+kept rs = record { places = rs .places; moves = rs .moves }
 
 -- what is known of the place where the reader of the node i over a list stops
 pub record Stopped (list : List ℕ) (i to : ℕ) (rs : Readers) (place : ℕ) : Type 0 where
@@ -57,11 +79,11 @@ pub record Stopped (list : List ℕ) (i to : ℕ) (rs : Readers) (place : ℕ) :
   pub above : place < length list → to ≤ getD list place 0
   pub number : (x : ℕ) → place < length list → x ≡ getD list place 0 → x < top → found x (after rs i place) ≡ read list i to rs
   pub finished : length list ≤ place → found top (after rs i place) ≡ read list i to rs
-  pub within : i < length (rs .places) → rs .moves ≤ sum (rs .places) → after rs i place .moves ≤ sum (after rs i place .places)
+  pub tallied : i < 48 → length list ≤ 65535 → Tallied (kept rs) → Tallied (kept (after rs i place))
 
 pub stopped : (list : List ℕ) (i to : ℕ) (rs : Readers) (place : ℕ) → place ≡ getD (rs .places) i 0 + passed (drop (getD (rs .places) i 0) list) to → Stopped list i to rs place
 unfolding read answer
-stopped list i to rs place is = record { small = small; above = above; number = number; finished = finished; within = within }
+stopped list i to rs place is = record { small = small; above = above; number = number; finished = finished; tallied = tallied }
   where
     before : ℕ
     before = getD (rs .places) i 0
@@ -87,5 +109,9 @@ stopped list i to rs place is = record { small = small; above = above; number = 
     finished : length list ≤ place → found top (after rs i place) ≡ read list i to rs
     finished h = found-end top (after rs i place) (omega arith) ∙ sym (reads ∙ ap (λ (l : List ℕ). answer l (after rs i place)) (drop-of-length-le list h))
 
-    within : i < length (rs .places) → rs .moves ≤ sum (rs .places) → after rs i place .moves ≤ sum (after rs i place .places)
-    within h k = rw is (omega (arith, sum-set (rs .places) i n h))
+    tallied : i < 48 → length list ≤ 65535 → Tallied (kept rs) → Tallied (kept (after rs i place))
+    tallied h k t = record {
+      many = length-set (rs .places) i place ∙ t .many;
+      small = λ j. below-set (rs .places) i place 65535 j (small (t .small i) k) (t .small j);
+      within = rw is (omega (arith, sum-set (rs .places) i n (omega (arith, t .many)), t .within));
+    }

@@ -10,7 +10,7 @@ ghost use Rattle.model.specs.declared.Node.{Node};
 ghost use Rattle.model.specs.Forms.{node-of};
 ghost use Rattle.expression.specs.Reading.{members};
 ghost use Rattle.reader.specs.Rows.{Behind, hops};
-ghost use Rattle.reader.specs.Sought.{readers-of, found-of, Tallied, Sound};
+ghost use Rattle.reader.specs.Sought.{readers, readers-of, sought, found-of, Tallied, Sound};
 use expression::Kind;
 
 // The answer of a seek that is finished: the first whole number that is no number of a list.
@@ -22,10 +22,10 @@ pub struct Readers {
     pub moves: u32,
 }
 
-// What a seek hands back: the number that it answers or FINISHED, and the readers after it.
+// What a seek hands back: the readers after it, and the number that it answers or FINISHED.
 pub struct Sought {
-    pub answer: u64,
     pub readers: Readers,
+    pub answer: u64,
 }
 
 // A number beside FINISHED.
@@ -73,38 +73,32 @@ fn moved(list: &[u32], place: usize, to: u64) -> usize
 }
 
 // The reader of a node, at list k: "At the list's end it is finished, else it answers the number".
-pub fn seek_list(
+pub fn read_list(
     numbers: &[u32],
     ends: &[u32],
     k: usize,
     node: usize,
-    start: Readers,
+    places: &mut [u16; 48],
+    moves: &mut u32,
     to: u64,
-) -> Sought
+) -> u64
     requires { ⌜ lists-of (now numbers) (now ends) ≡ accepted (lists-from (now numbers) 0 (now ends)) ⌝ }
     requires { ⌜ (k < length (now ends)) × (node < 48) ⌝ }
-    requires { ⌜ (to ≤ top) × Tallied start ⌝ }
-    ensures { λ r. ⌜ Sound to r ⌝ }
-    ensures { λ r. ⌜ found-of r ≡ read-list (getD (lists-from (now (numbers .entry)) 0 (now (ends .entry))) k []) node to (readers-of start) ⌝ }
+    requires { ⌜ (to ≤ top) × Tallied (readers (now places) (now moves)) ⌝ }
+    ensures { λ r. ⌜ Sound to (sought r (now (places .exit)) (now (moves .exit))) ⌝ }
+    ensures { λ r. ⌜ found-of (sought r (now (places .exit)) (now (moves .exit))) ≡ read-list (getD (lists-from (now (numbers .entry)) 0 (now (ends .entry))) k []) node to (readers-of (readers (now (places .entry)) (now (moves .entry)))) ⌝ }
 {
     let from = lists::start_of(ends, k);
     let stop = lists::start_of(ends, k + 1);
     let list = &numbers[from..stop];
-    let mut readers = start;
-    let before = index(readers.places[node]);
+    let before = index(places[node]);
     let place = moved(list, before, to);
-    readers.places[node] = place_of(place);
-    readers.moves += moves_of(place - before);
+    places[node] = place_of(place);
+    *moves += moves_of(place - before);
     if place < list.len() {
-        Sought {
-            answer: wide(list[place]),
-            readers,
-        }
+        wide(list[place])
     } else {
-        Sought {
-            answer: FINISHED,
-            readers,
-        }
+        FINISHED
     }
 }
 

@@ -1,4 +1,4 @@
--- `seek_list` meets its contract: list k is the run of numbers that the reader gets, and the reader stops where the step does.
+-- `read_list` meets its contract: list k is the run of numbers that the reader gets, and the reader stops where the step does.
 -- The moves fit 32 bits, since they are within the sum of 48 places of 16 bits. Assumes nothing.
 use borrow.Author.Needs.{needs}
 use mathlib.Core.Path.{_≡_, sym, ap, ap₂, _∙_}
@@ -6,17 +6,15 @@ use mathlib.Core.List.{List, []}
 use Prim.Native.Nat.{ℕ, _+_, _-_, _*_, _≤_, _<_}
 use native.Mathlib.Omega.{arith}
 use native.Mathlib.Numerals.{add-one}
-use mir.Syntax.{w16}
-use mir.Val.{Fits}
 use lib.ListN.{length, getD, take, drop}
 use Rattle.model.specs.Lists.{top, part, lists-from}
 use Rattle.model.specs.Steps.{passed}
 use Rattle.model.specs.Demands.{sum}
 use Rattle.lists.proofs.Spans.{list-runs}
-use Rattle.reader.specs.Sought.{readers-of}
+use Rattle.reader.specs.Sought.{readers, readers-of}
 use Rattle.reader.proofs.Moves.{sum-bound, Stopped, stopped}
-use Rattle.reader.proofs.seek_list.Statement.{statement}
-use Rattle.reader.proofs.seek_list.Tie as tie
+use Rattle.reader.proofs.read_list.Statement.{statement}
+use Rattle.reader.proofs.read_list.Tie as tie
 
 -- list k runs from `from` to `stop` in the numbers
 record Listed (numbers ends : List ℕ) (k from stop : ℕ) : Type 0 where
@@ -36,21 +34,15 @@ listed c =
     let r = list-runs (args .numbers .now) (args .ends .now) (args .k) (start .pre .0) (start .pre .1 .0 .0) in
     rw (from, stop) (record { order = r .order; inside = r .inside; few = r .few; many = r .many; is = sym (r .is) })
 
--- the places are 48 numbers of 16 bits, so that their sum is far below 32 bits
-place-fits : (c : tie.Start) (i : ℕ) → Fits w16 (getD (c .args .start .places) i 0)
-place-fits c i = search needs
-
-places-many : (c : tie.Start) → length (c .args .start .places) ≡ 48
-places-many c = search needs
-
-places-sum : (c : tie.Start) → sum (c .args .start .places) ≤ 48 * 65535
-places-sum c = rw (places-many c) at (sum-bound (c .args .start .places) 65535 (λ i. omega (arith, place-fits c i .fits)))
+-- 48 places of 16 bits sum to far less than 32 bits hold
+places-sum : (c : tie.Start) → sum (c .args .places .now) ≤ 48 * 65535
+places-sum c = let t = c .pre .1 .1 .1 in rw (t .many) at (sum-bound (c .args .places .now) 65535 (t .small))
 
 -- the reader stops where the step does
-stops : (c : tie.After-moved) → let args = c .before .before .before .before .before .before .before .before .args in Stopped (getD (lists-from (args .numbers .now) 0 (args .ends .now)) (args .k) []) (args .node) (args .to) (readers-of (args .start)) (c .moved .result)
+stops : (c : tie.After-moved) → let args = c .before .before .before .before .before .before .before .before .args in Stopped (getD (lists-from (args .numbers .now) 0 (args .ends .now)) (args .k) []) (args .node) (args .to) (readers-of (readers (args .places .now) (args .moves .now))) (c .moved .result)
 stops c =
     let args = c .before .before .before .before .before .before .before .before .args in
-    stopped _ (args .node) (args .to) (readers-of (args .start)) (c .moved .result)
+    stopped _ (args .node) (args .to) (readers-of (readers (args .places .now) (args .moves .now))) (c .moved .result)
     (c .moved .ensures ∙ ap₂ (λ (b : ℕ) (l : List ℕ). b + passed (drop b l) (args .to)) (c .before .index .ensures .0) (listed (c .before .before .before .before) .is))
 
 start-of-requires : tie.Need-start-of-requires
@@ -91,11 +83,11 @@ place-of-requires c κs =
     let l = listed (c .before .before .before .before) in
     stops c .small (omega (arith, c .before .index .ensures .0, c .before .index .ensures .1)) (omega (arith, l .many, l .few))
 
-mul-readers : tie.Need-mul-readers
-mul-readers c = search needs
+mul-places : tie.Need-mul-places
+mul-places c = search needs
 
-element-write-readers : tie.Need-element-write-readers
-element-write-readers c = search needs
+element-write-places : tie.Need-element-write-places
+element-write-places c = search needs
 
 sub-moves-of : tie.Need-sub-moves-of
 sub-moves-of c = search needs
@@ -103,8 +95,8 @@ sub-moves-of c = search needs
 moves-of-requires : tie.Need-moves-of-requires
 moves-of-requires c κs = search needs
 
-add-readers : tie.Need-add-readers
-add-readers c = omega (arith, places-sum (c .before .before .before .before .before .before .before .before .before .before), c .moves-of .ensures)
+add-moves : tie.Need-add-moves
+add-moves c = let m = c .before in let start = m .before .before .before .before .before .before .before .before .before .before in omega (arith, places-sum start, start .pre .1 .1 .1 .within, m .moves-of .ensures)
 
 mul-wide : tie.Need-mul-wide
 mul-wide c = search needs
@@ -117,7 +109,7 @@ wide-requires c κs = search needs
 
 returns : tie.Need-returns
 returns c =
-    let m = c .before .before .before in
+    let m = c .before .before .before .before in
     let d = m .before .before in
     let start = d .before .before .before .before .before .before .before .before in
     let l = listed (d .before .before .before .before) in
@@ -125,23 +117,23 @@ returns c =
     let number = c .wide .ensures ∙ ap (λ (xs : List ℕ). getD xs place 0) (l .is) in
     let small : c .wide .result < top = omega (arith, c .wide .ensures, c .before .shared-slice-known3 .given place .fits) in
     rw (m .before .place-of .ensures, m .moves-of .ensures, d .before .index .ensures .0) (
-      record { above = rw number (stops d .above (omega (arith, l .many, c .before .before .if1 .taken))); low = omega arith; tallied = stops d .within (omega (arith, places-many start)) (start .pre .1 .1 .1) },
+      record { above = rw number (stops d .above (omega (arith, l .many, c .before .before .if1 .taken))); low = omega arith; tallied = stops d .tallied (start .pre .1 .0 .1) (omega (arith, l .many, l .few)) (start .pre .1 .1 .1) },
       stops d .number (c .wide .result) (omega (arith, l .many, c .before .before .if1 .taken)) number small,
     )
 
 returns-2 : tie.Need-returns-2
 returns-2 c =
-    let m = c .before in
+    let m = c .before .before in
     let d = m .before .before in
     let start = d .before .before .before .before .before .before .before .before in
     let l = listed (d .before .before .before .before) in
     rw (m .before .place-of .ensures, m .moves-of .ensures, d .before .index .ensures .0) (
-      record { above = start .pre .1 .1 .0; low = omega arith; tallied = stops d .within (omega (arith, places-many start)) (start .pre .1 .1 .1) },
+      record { above = start .pre .1 .1 .0; low = omega arith; tallied = stops d .tallied (start .pre .1 .0 .1) (omega (arith, l .many, l .few)) (start .pre .1 .1 .1) },
       stops d .finished (omega (arith, l .many, c .if1 .left)),
     )
 
-pub seek-list-spec : {M : Type 1} → statement M
-seek-list-spec =
+pub read-list-spec : {M : Type 1} → statement M
+read-list-spec =
     tie.close
     (tie.spec
     start-of-requires
@@ -156,11 +148,11 @@ seek-list-spec =
     index-requires
     moved-requires
     place-of-requires
-    mul-readers
-    element-write-readers
+    mul-places
+    element-write-places
     sub-moves-of
     moves-of-requires
-    add-readers
+    add-moves
     mul-wide
     shared-slice-read-wide
     wide-requires
