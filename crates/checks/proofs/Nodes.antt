@@ -46,7 +46,7 @@ module _ {numbers ends nodes behind : List ℕ} (ready : Ready numbers ends node
         a (below t) (many b t n k) (below-at ready i t s) ∙ rw (← first-is ready i) (until-below b (lists-from numbers 0 ends) t n i d rs k)
 
     module _ (e : node-of (getD nodes i 0) ≡ accepted Difference) (y : Bool) (rs₁ : Readers) (a : Says numbers ends nodes d (i + 1) rs (says y rs₁)) where
-      pub of-no : y ≡ false → Says numbers ends nodes d i rs (says y rs₁)
+      pub of-no : y ≡ false → Says numbers ends nodes d i rs (says false rs₁)
       unfolding check-node on-yes
       of-no h t s =
           let p = pair ready i e t s in

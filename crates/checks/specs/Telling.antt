@@ -10,12 +10,16 @@ use Rattle.model.specs.Steps as model
 use Rattle.model.specs.Steps.{Check, says, on-yes, on-no, check-node}
 use Rattle.reader.specs.declared.Readers.{Readers}
 use Rattle.reader.specs.Rows.{Stands, Stand-each}
-use Rattle.reader.specs.Sought.{readers-of}
+use Rattle.reader.specs.Sought.{readers, readers-of}
 use Rattle.checks.specs.declared.Checked.{Checked}
 
 -- yes or no, and the readers
 abbrev pub checked-of : Checked → model.Checked
 checked-of c = says (c .yes) (readers-of (c .readers))
+
+-- a reply, with the places and moves that a check in lent ones leaves: what a check hands back
+abbrev pub checked : Bool → List ℕ → ℕ → Checked
+checked reply places moves = record { readers = readers places moves; yes = reply }
 
 -- the check of the node i for d: `Steps.check-node` of the tree that stands there
 abbrev pub Tells : (numbers ends nodes : List ℕ) → ℕ → ℕ → Readers → Checked → Type 0

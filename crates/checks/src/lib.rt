@@ -10,16 +10,16 @@ ghost use Rattle.model.specs.Lists.{lists-from, lists-of};
 ghost use Rattle.model.specs.Forms.{node-of};
 ghost use Rattle.model.specs.Steps.{read, is-at};
 ghost use Rattle.reader.specs.Rows.{Standing, Standing-each, Ready};
-ghost use Rattle.reader.specs.Sought.{readers-of, Tallied};
-ghost use Rattle.checks.specs.Telling.{checked-of, Tells, Tells-in};
+ghost use Rattle.reader.specs.Sought.{readers, readers-of, Tallied};
+ghost use Rattle.checks.specs.Telling.{checked, checked-of, Tells, Tells-in};
 use expression::Kind;
 use model::Node;
 use reader::Readers;
 
-// What a check hands back: yes or no, and the readers after it.
+// What a check hands back: the readers after it, and yes or no.
 pub struct Checked {
-    pub yes: bool,
     pub readers: Readers,
+    pub yes: bool,
 }
 
 // "A reader seeks D, yes if it answers D".
@@ -28,21 +28,18 @@ fn check_list(
     ends: &[u32],
     k: usize,
     node: usize,
-    start: Readers,
+    places: &mut [u16; 48],
+    moves: &mut u32,
     d: u32,
-) -> Checked
+) -> bool
     requires { ⌜ lists-of (now numbers) (now ends) ≡ accepted (lists-from (now numbers) 0 (now ends)) ⌝ }
     requires { ⌜ (k < length (now ends)) × (node < 48) ⌝ }
-    requires { ⌜ Tallied start ⌝ }
-    ensures { λ r. ⌜ Tallied (r .readers) ⌝ }
-    ensures { λ r. ⌜ checked-of r ≡ is-at d (read (getD (lists-from (now (numbers .entry)) 0 (now (ends .entry))) k []) node d (readers-of start)) ⌝ }
+    requires { ⌜ Tallied (readers (now places) (now moves)) ⌝ }
+    ensures { λ r. ⌜ Tallied (readers (now (places .exit)) (now (moves .exit))) ⌝ }
+    ensures { λ r. ⌜ checked-of (checked r (now (places .exit)) (now (moves .exit))) ≡ is-at d (read (getD (lists-from (now (numbers .entry)) 0 (now (ends .entry))) k []) node d (readers-of (readers (now (places .entry)) (now (moves .entry))))) ⌝ }
 {
-    let a = reader::seek_list(numbers, ends, k, node, start, reader::wide(d));
-    let readers = a.readers;
-    Checked {
-        yes: a.answer == reader::wide(d),
-        readers,
-    }
+    let answer = reader::read_list(numbers, ends, k, node, places, moves, reader::wide(d));
+    answer == reader::wide(d)
 }
 
 // The check of a node.
@@ -61,18 +58,62 @@ pub fn check(
     ensures { λ r. ⌜ Tallied (r .readers) ⌝ }
     ensures { λ r. ⌜ Tells (now (numbers .entry)) (now (ends .entry)) (now (nodes .entry)) node d start r ⌝ }
 {
+    let mut places = start.places;
+    let mut moves = start.moves;
+    let yes = check_node(
+        numbers,
+        ends,
+        nodes,
+        behind,
+        node,
+        &mut places,
+        &mut moves,
+        d,
+    );
+    let readers = Readers { places, moves };
+    Checked { readers, yes }
+}
+
+// The same in lent places and moves, by the node's kind.
+fn check_node(
+    numbers: &[u32],
+    ends: &[u32],
+    nodes: &[u8; 48],
+    behind: &[usize; 48],
+    node: usize,
+    places: &mut [u16; 48],
+    moves: &mut u32,
+    d: u32,
+) -> bool
+    requires { ⌜ Ready (now numbers) (now ends) (now nodes) (now behind) ⌝ }
+    requires { ⌜ Standing (length (now ends)) (now nodes) node ⌝ }
+    requires { ⌜ Tallied (readers (now places) (now moves)) ⌝ }
+    ensures { λ r. ⌜ Tallied (readers (now (places .exit)) (now (moves .exit))) ⌝ }
+    ensures { λ r. ⌜ Tells (now (numbers .entry)) (now (ends .entry)) (now (nodes .entry)) node d (readers (now (places .entry)) (now (moves .entry))) (checked r (now (places .exit)) (now (moves .exit))) ⌝ }
+{
     let kind = expression::node_of(nodes[node]);
     let Kind::Known(known) = kind else {
         // never: a tree stands at the node
-        return Checked {
-            yes: false,
-            readers: start,
-        };
+        return false;
     };
     match known {
-        Node::Leaf(k) => check_list(numbers, ends, expression::wide(k), node, start, d),
-        Node::Difference => check_difference(numbers, ends, nodes, behind, node, start, d),
-        Node::Union(n) => check_members(numbers, ends, nodes, behind, node + 1, n, true, start, d),
+        Node::Leaf(k) => {
+            let k = expression::wide(k);
+            check_list(numbers, ends, k, node, places, moves, d)
+        }
+        Node::Difference => check_difference(numbers, ends, nodes, behind, node, places, moves, d),
+        Node::Union(n) => check_members(
+            numbers,
+            ends,
+            nodes,
+            behind,
+            node + 1,
+            n,
+            true,
+            places,
+            moves,
+            d,
+        ),
         Node::Intersection(n) => check_members(
             numbers,
             ends,
@@ -81,10 +122,37 @@ pub fn check(
             node + 1,
             n,
             false,
-            start,
+            places,
+            moves,
             d,
         ),
     }
+}
+
+// The check of a member node; a list at once, which spares a call: most are.
+fn check_member(
+    numbers: &[u32],
+    ends: &[u32],
+    nodes: &[u8; 48],
+    behind: &[usize; 48],
+    node: usize,
+    places: &mut [u16; 48],
+    moves: &mut u32,
+    d: u32,
+) -> bool
+    requires { ⌜ Ready (now numbers) (now ends) (now nodes) (now behind) ⌝ }
+    requires { ⌜ Standing (length (now ends)) (now nodes) node ⌝ }
+    requires { ⌜ Tallied (readers (now places) (now moves)) ⌝ }
+    ensures { λ r. ⌜ Tallied (readers (now (places .exit)) (now (moves .exit))) ⌝ }
+    ensures { λ r. ⌜ Tells (now (numbers .entry)) (now (ends .entry)) (now (nodes .entry)) node d (readers (now (places .entry)) (now (moves .entry))) (checked r (now (places .exit)) (now (moves .exit))) ⌝ }
+{
+    let byte = nodes[node];
+    // "0 to 31 a list"
+    if byte < 32 {
+        let k = expression::wide(byte);
+        return check_list(numbers, ends, k, node, places, moves, d);
+    }
+    check_node(numbers, ends, nodes, behind, node, places, moves, d)
 }
 
 // "A difference checks its first, and on yes its second, whose reply it turns round".
@@ -94,28 +162,25 @@ fn check_difference(
     nodes: &[u8; 48],
     behind: &[usize; 48],
     node: usize,
-    start: Readers,
+    places: &mut [u16; 48],
+    moves: &mut u32,
     d: u32,
-) -> Checked
+) -> bool
     requires { ⌜ Ready (now numbers) (now ends) (now nodes) (now behind) ⌝ }
     requires { ⌜ Standing (length (now ends)) (now nodes) node ⌝ }
     requires { ⌜ node-of (getD (now nodes) node 0) ≡ accepted Difference ⌝ }
-    requires { ⌜ Tallied start ⌝ }
-    ensures { λ r. ⌜ Tallied (r .readers) ⌝ }
-    ensures { λ r. ⌜ Tells (now (numbers .entry)) (now (ends .entry)) (now (nodes .entry)) node d start r ⌝ }
+    requires { ⌜ Tallied (readers (now places) (now moves)) ⌝ }
+    ensures { λ r. ⌜ Tallied (readers (now (places .exit)) (now (moves .exit))) ⌝ }
+    ensures { λ r. ⌜ Tells (now (numbers .entry)) (now (ends .entry)) (now (nodes .entry)) node d (readers (now (places .entry)) (now (moves .entry))) (checked r (now (places .exit)) (now (moves .exit))) ⌝ }
 {
     let first = node + 1;
     let second = behind[first];
-    let a = check(numbers, ends, nodes, behind, first, start, d);
-    if !a.yes {
-        return a;
+    let in_first = check_member(numbers, ends, nodes, behind, first, places, moves, d);
+    if !in_first {
+        return false;
     }
-    let b = check(numbers, ends, nodes, behind, second, a.readers, d);
-    let readers = b.readers;
-    Checked {
-        yes: !b.yes,
-        readers,
-    }
+    let in_second = check_member(numbers, ends, nodes, behind, second, places, moves, d);
+    !in_second
 }
 
 // "A union checks in order until a yes, an intersection until a no": member nodes in order, until one says so.
@@ -127,29 +192,25 @@ fn check_members(
     first: usize,
     count: u8,
     until: bool,
-    start: Readers,
+    places: &mut [u16; 48],
+    moves: &mut u32,
     d: u32,
-) -> Checked
+) -> bool
     requires { ⌜ Ready (now numbers) (now ends) (now nodes) (now behind) ⌝ }
     requires { ⌜ Standing-each (length (now ends)) (now nodes) first count ⌝ }
-    requires { ⌜ Tallied start ⌝ }
-    ensures { λ r. ⌜ Tallied (r .readers) ⌝ }
-    ensures { λ r. ⌜ Tells-in until (now (numbers .entry)) (now (ends .entry)) (now (nodes .entry)) first count d start r ⌝ }
+    requires { ⌜ Tallied (readers (now places) (now moves)) ⌝ }
+    ensures { λ r. ⌜ Tallied (readers (now (places .exit)) (now (moves .exit))) ⌝ }
+    ensures { λ r. ⌜ Tells-in until (now (numbers .entry)) (now (ends .entry)) (now (nodes .entry)) first count d (readers (now (places .entry)) (now (moves .entry))) (checked r (now (places .exit)) (now (moves .exit))) ⌝ }
 {
-    let mut readers = start;
     let mut at = first;
     let mut left = count;
     while 0 < left {
-        let a = check(numbers, ends, nodes, behind, at, readers, d);
-        if a.yes == until {
-            return a;
+        let yes = check_member(numbers, ends, nodes, behind, at, places, moves, d);
+        if yes == until {
+            return yes;
         }
-        readers = a.readers;
         at = behind[at];
         left -= 1;
     }
-    Checked {
-        yes: !until,
-        readers,
-    }
+    !until
 }

@@ -23,18 +23,18 @@ is-found d x rs h = split (says (eqb x d) rs ≡ is-at d (found x rs)) x top
 wide-requires : tie.Need-wide-requires
 wide-requires c κs = search needs
 
-seek-list-requires : tie.Need-seek-list-requires
-seek-list-requires c κs = search needs
+read-list-requires : tie.Need-read-list-requires
+read-list-requires c κs = let start = c .before .before .before .before .before in (start .pre .0, (start .pre .1 .0, (omega (arith, c .wide .ensures), start .pre .1 .1)))
 
 wide-requires-2 : tie.Need-wide-requires-2
 wide-requires-2 c κs = search needs
 
 returns : tie.Need-returns
 returns c =
-    let found = c .before .before .before .seek-list .ensures in
-    let e = c .before .before .before .before .wide .ensures in
-    let e₂ = c .before .wide2 .ensures in
+    let found = c .before .read-list .ensures in
+    let e = c .before .before .wide .ensures in
+    let e₂ = c .wide2 .ensures in
     (found .0 .tallied, rw e₂ (is-found _ _ _ (omega arith) ∙ ap (is-at _) (rw e at (found .1))))
 
 pub check-list-spec : {M : Type 1} → statement M
-check-list-spec = tie.close (tie.spec wide-requires seek-list-requires wide-requires-2 returns)
+check-list-spec = tie.close (tie.spec wide-requires read-list-requires wide-requires-2 returns)
