@@ -1,8 +1,10 @@
 // A run: the tests in 01's order, then the calls one after another, each with the floor, places and moves that the call before
 // it left.
 ghost use mathlib.Core.Path.{_≡_};
+ghost use mathlib.Core.Bool.{cond};
 ghost use Prim.Native.Nat.{_≤_, _<_, max};
 ghost use lib.ListN.{length};
+ghost use Rattle.model.specs.declared.Reply.the-variants.{Yes, No};
 ghost use Rattle.model.specs.Lists.{top};
 ghost use Rattle.model.specs.Machine.{check, call, encode as encoded};
 ghost use Rattle.model.specs.Steps.{seek as seek-tree};
@@ -11,7 +13,7 @@ ghost use Rattle.model.specs.Calls.{ran, run-call};
 ghost use Rattle.model.specs.Demands.{Third-demand-met};
 ghost use Rattle.reader.specs.Rows.{Standing, Ready};
 ghost use Rattle.reader.specs.Sought.{readers-of, Tallied};
-ghost use Rattle.engine.specs.States.{state-of, Steps-to, Answers};
+ghost use Rattle.engine.specs.States.{reply-drawn, floor-drawn, Raises, state-of, Steps-to, Answers};
 use expression::Form;
 use model::Ran;
 use model::Reply;
@@ -33,6 +35,38 @@ fn narrow(x: u64) -> u32
     ensures { λ r. ⌜ r ≡ x ⌝ }
 {
     x as u32
+}
+
+// The reply to an answer of the whole expression.
+fn drawn_reply(x: u64) -> Reply
+    requires { ⌜ x ≤ top ⌝ }
+    ensures { λ r. ⌜ r ≡ reply-drawn x ⌝ }
+{
+    if x == reader::FINISHED {
+        return Reply::Finished;
+    }
+    Reply::Member(narrow(x))
+}
+
+// The floor after it: "that member plus 1"; finished, "4,294,967,296".
+fn drawn_floor(x: u64) -> u64
+    requires { ⌜ x ≤ top ⌝ }
+    ensures { λ r. ⌜ r ≡ floor-drawn x ⌝ }
+{
+    if x == reader::FINISHED {
+        return x;
+    }
+    x + 1
+}
+
+// The reply to what a check says.
+fn told_reply(yes: bool) -> Reply
+    ensures { λ r. ⌜ r ≡ cond yes Yes No ⌝ }
+{
+    if yes {
+        return Reply::Yes;
+    }
+    Reply::No
 }
 
 // The floor, raised to a number if it is lower.
@@ -58,18 +92,12 @@ pub fn draw(
     ensures { λ r. ⌜ Steps-to (now (numbers .entry)) (now (ends .entry)) (now (nodes .entry)) (λ ls t. drawn (seek-tree ls t 0 floor (readers-of start))) r ⌝ }
 {
     let a = seeks::seek(numbers, ends, nodes, behind, 0, start, floor);
-    let readers = a.readers;
     let x = a.answer;
-    if x == reader::FINISHED {
-        return Stepped {
-            reply: Reply::Finished,
-            floor: x,
-            readers,
-        };
-    }
+    let reply = drawn_reply(x);
+    let readers = a.readers;
     Stepped {
-        reply: Reply::Member(narrow(x)),
-        floor: x + 1,
+        reply,
+        floor: drawn_floor(x),
         readers,
     }
 }
@@ -98,23 +126,17 @@ fn ask(
         };
     }
     let a = checks::check(numbers, ends, nodes, behind, 0, start, d);
+    let reply = told_reply(a.yes);
     let readers = a.readers;
-    if a.yes {
-        return Stepped {
-            reply: Reply::Yes,
-            floor: reader::wide(d),
-            readers,
-        };
-    }
     Stepped {
-        reply: Reply::No,
+        reply,
         floor: reader::wide(d),
         readers,
     }
 }
 
-// One call: "Codes 0 to 2 seek the raised floor"; "Any other code: unknown, nothing changes".
-fn step(
+// A call that draws nothing: a check, or "any other code: unknown, nothing changes".
+fn tell(
     numbers: &[u32],
     ends: &[u32],
     nodes: &[u8; 48],
@@ -127,33 +149,30 @@ fn step(
     requires { ⌜ Ready (now numbers) (now ends) (now nodes) (now behind) ⌝ }
     requires { ⌜ Standing (length (now ends)) (now nodes) 0 ⌝ }
     requires { ⌜ (floor ≤ top) × Tallied start ⌝ }
+    requires { ⌜ 3 ≤ code ⌝ }
     ensures { λ r. ⌜ (r .floor ≤ top) × Tallied (r .readers) ⌝ }
     ensures { λ r. ⌜ Steps-to (now (numbers .entry)) (now (ends .entry)) (now (nodes .entry)) (λ ls t. step-of ls t (state-of floor start) (call code d)) r ⌝ }
 {
+    if code == 3 {
+        return ask(numbers, ends, nodes, behind, start, floor, d);
+    }
+    Stepped {
+        reply: Reply::Unknown,
+        floor,
+        readers: start,
+    }
+}
+
+// "Codes 0 to 2 seek the raised floor": what they raise it to.
+fn target(floor: u64, code: u8, d: u32) -> u64
+    requires { ⌜ (floor ≤ top) × (code < 3) ⌝ }
+    ensures { λ r. ⌜ r ≤ top ⌝ }
+    ensures { λ r. ⌜ Raises floor code d r ⌝ }
+{
     match code {
-        0 => draw(numbers, ends, nodes, behind, start, floor),
-        1 => draw(
-            numbers,
-            ends,
-            nodes,
-            behind,
-            start,
-            raised(floor, reader::wide(d)),
-        ),
-        2 => draw(
-            numbers,
-            ends,
-            nodes,
-            behind,
-            start,
-            raised(floor, reader::wide(d) + 1),
-        ),
-        3 => ask(numbers, ends, nodes, behind, start, floor, d),
-        _ => Stepped {
-            reply: Reply::Unknown,
-            floor,
-            readers: start,
-        },
+        1 => raised(floor, reader::wide(d)),
+        2 => raised(floor, reader::wide(d) + 1),
+        _ => floor,
     }
 }
 
@@ -194,20 +213,25 @@ fn answer(
     let mut floor = bookmark;
     let mut i = 0;
     while i < codes.len() {
-        let s = step(
-            numbers,
-            ends,
-            nodes,
-            behind,
-            readers,
-            floor,
-            codes[i],
-            arguments[i],
-        );
-        let reply = s.reply;
-        replies[i] = encode(reply);
-        floor = s.floor;
-        readers = s.readers;
+        let code = codes[i];
+        let d = arguments[i];
+        // draws come straight from here, so that the readers are copied in and out of a seek once each
+        let mut word = 0;
+        if code < 3 {
+            let to = target(floor, code, d);
+            let s = draw(numbers, ends, nodes, behind, readers, to);
+            let reply = s.reply;
+            word = encode(reply);
+            floor = s.floor;
+            readers = s.readers;
+        } else {
+            let s = tell(numbers, ends, nodes, behind, readers, floor, code, d);
+            let reply = s.reply;
+            word = encode(reply);
+            floor = s.floor;
+            readers = s.readers;
+        }
+        replies[i] = word;
         i += 1;
     }
     let places = readers.places;

@@ -1,18 +1,24 @@
 -- `answer` meets its contract. The loop's invariant, said backwards: what is sent back from here on is what is sent back from the
 -- start. The measure is how many calls are left. Assumes nothing.
 use mathlib.Core.Path.{_≡_, refl, _∙_}
-use Prim.Native.Nat.{_-_, _≤_}
+use mathlib.Core.Logic.{⊎-elim}
+use mathlib.Core.List.{List}
+use Prim.Native.Nat.{ℕ, _-_, _≤_}
 use native.Mathlib.Omega.{arith}
 use borrow.Author.Needs.{needs}
-use lib.ListN.{length, drop, length-set}
+use lib.ListN.{length, getD, drop, length-set}
 use Rattle.model.specs.Lists.{top, lists-from}
 use Rattle.model.specs.Expression.{Tree}
-use Rattle.model.specs.Machine.{calls}
-use Rattle.model.specs.Run.{run}
+use Rattle.model.specs.declared.Reply.{Reply}
+use Rattle.model.specs.Machine.{call, calls, encode}
+use Rattle.model.specs.Run.{State, step, run}
 use Rattle.model.specs.Demands.{ran-all}
+use Rattle.reader.specs.declared.Readers.{Readers}
 use Rattle.reader.specs.Rows.{Stands}
 use Rattle.reader.specs.Sought.{Tallied}
-use Rattle.engine.specs.States.{state-of, stepped-of}
+use Rattle.reader.proofs.Moves.{none-moved}
+use Rattle.engine.specs.States.{state-of}
+use Rattle.engine.proofs.Replies.{code-drawn}
 use Rattle.engine.proofs.Sends.{sends, sends-start, sends-none, sends-one}
 use Rattle.engine.proofs.answer.Statement.{statement}
 use Rattle.engine.proofs.answer.Tie as tie
@@ -27,25 +33,37 @@ abbrev μ-loop : tie.MeasureT-loop
 μ-loop numbers ends nodes behind bookmark codes ds replies₀ readers₀ floor₀ i₀ replies readers floor i = length codes - i
 
 loop-holds : tie.Need-loop-holds Inv-loop μ-loop
-loop-holds c = let e = c .before .before .before .before .before in (e .pre .1 .1 .0, omega arith, refl, λ t h. sends-start _ t _ _ _ _)
+loop-holds c = let e = c .before .before .before .before .before in (e .pre .1 .1 .0, none-moved, refl, λ t h. sends-start _ t _ _ _ _)
 
-shared-slice-read-step : tie.Need-shared-slice-read-step Inv-loop μ-loop
-shared-slice-read-step c = search needs
+shared-slice-read-code : tie.Need-shared-slice-read-code Inv-loop μ-loop
+shared-slice-read-code c = search needs
 
-mul-step : tie.Need-mul-step Inv-loop μ-loop
-mul-step c = search needs
+mul-d : tie.Need-mul-d Inv-loop μ-loop
+mul-d c = search needs
 
-shared-slice-read-step-2 : tie.Need-shared-slice-read-step-2 Inv-loop μ-loop
-shared-slice-read-step-2 c = search needs
+shared-slice-read-d : tie.Need-shared-slice-read-d Inv-loop μ-loop
+shared-slice-read-d c = search needs
 
-step-requires : tie.Need-step-requires Inv-loop μ-loop
-step-requires c κs =
-    let l = c .before .before .before .loop in
-    let e = c .before .before .before .before .before .before .before .before .before in
-    (e .pre .0, (e .pre .1 .0, (l .inv .0, l .inv .1)))
+target-requires : tie.Need-target-requires Inv-loop μ-loop
+target-requires c κs = (c .before .before .before .before .loop .inv .0, c .if1 .taken)
+
+draw-requires : tie.Need-draw-requires Inv-loop μ-loop
+draw-requires c κs =
+    let l = c .before .before .before .before .before .loop in
+    let e = c .before .before .before .before .before .before .before .before .before .before .before in
+    (e .pre .0, (e .pre .1 .0, (c .target .ensures .0, l .inv .1)))
 
 encode-requires : tie.Need-encode-requires Inv-loop μ-loop
 encode-requires c κs = search needs
+
+tell-requires : tie.Need-tell-requires Inv-loop μ-loop
+tell-requires c κs =
+    let l = c .before .before .before .before .loop in
+    let e = c .before .before .before .before .before .before .before .before .before .before in
+    (e .pre .0, (e .pre .1 .0, ((l .inv .0, l .inv .1), c .if1 .left)))
+
+encode-requires-2 : tie.Need-encode-requires-2 Inv-loop μ-loop
+encode-requires-2 c κs = search needs
 
 mul-replies : tie.Need-mul-replies Inv-loop μ-loop
 mul-replies c = search needs
@@ -59,17 +77,45 @@ add-i c = search needs
 loop-less : tie.Need-loop-less Inv-loop μ-loop
 loop-less c = search needs
 
+-- what either branch leaves: a reply's word, floor and readers, as the step has them
+record Turned (numbers ends nodes : List ℕ) (s : State) (code d : ℕ) (readers : Readers) (floor word : ℕ) : Type 0 where
+  reply : Reply
+  low : floor ≤ top
+  tallied : Tallied readers
+  steps : (t : Tree) → Stands (length ends) nodes t 0 → _≡_ {A = Reply × State} (reply, state-of floor readers) (step (lists-from numbers 0 ends) t s (call code d))
+  says : word ≡ encode reply
+
+turned : (c : tie.Joined1 Inv-loop μ-loop) → let l = c .before .before .before .before .loop in let args = c .before .before .before .before .before .before .before .before .before .before .args in
+    Turned (args .numbers .now) (args .ends .now) (args .nodes .now) (state-of (l .floor) (l .readers)) (getD (args .codes .now) (l .i) 0) (getD (args .arguments .now) (l .i) 0) (c .if1 .readers) (c .if1 .floor) (c .if1 .word)
+turned c =
+    ⊎-elim
+    (λ w. rw (w .5, w .6, w .7) (record {
+      reply = w .2 .result .reply;
+      low = w .2 .ensures .0 .0;
+      tallied = w .2 .ensures .0 .1;
+      steps = λ t h. w .2 .ensures .1 t h ∙ code-drawn _ t _ _ _ _ (omega (arith, w .0 .taken)) (w .1 .ensures .1);
+      says = w .3 .ensures;
+    }))
+    (λ w. rw (w .4, w .5, w .6) (record {
+      reply = w .1 .result .reply;
+      low = w .1 .ensures .0 .0;
+      tallied = w .1 .ensures .0 .1;
+      steps = w .1 .ensures .1;
+      says = w .2 .ensures;
+    }))
+    (c .if1 .came)
+
 loop-again : tie.Need-loop-again Inv-loop μ-loop
 loop-again c =
-    let made = c .before .before in
-    let l = made .before .before .before .before .loop in
-    let e = made .before .before .before .before .before .before .before .before .before .before in
-    let s = made .step in (
-      s .ensures .0 .0,
-      s .ensures .0 .1,
-      length-set (l .replies) (l .i) (c .before .encode .result) ∙ l .inv .2,
-      λ t h. sends-one _ t (state-of (l .floor) (l .readers)) (e .args .codes .now) (e .args .arguments .now) (l .replies) (l .i) (stepped-of (s .result)) (c .before .encode .result)
-          (omega arith) (omega arith) (omega arith) (s .ensures .1 t h) (c .before .encode .ensures)
+    let l = c .before .before .before .before .loop in
+    let e = c .before .before .before .before .before .before .before .before .before .before in
+    let inside = c .before .before .before .loop-test .taken in
+    let r = turned c in (
+      r .low,
+      r .tallied,
+      length-set (l .replies) (l .i) (c .if1 .word) ∙ l .inv .2,
+      λ t h. sends-one _ t (state-of (l .floor) (l .readers)) (e .args .codes .now) (e .args .arguments .now) (l .replies) (l .i) (r .reply, state-of (c .if1 .floor) (c .if1 .readers)) (c .if1 .word)
+          (omega (arith, inside)) (e .pre .1 .1 .1 .0) (omega (arith, inside, e .pre .1 .1 .1 .1, l .inv .2)) (r .steps t h) (r .says)
           ∙ l .inv .3 t h,
     )
 
@@ -89,11 +135,14 @@ answer-spec =
     Inv-loop
     μ-loop
     loop-holds
-    shared-slice-read-step
-    mul-step
-    shared-slice-read-step-2
-    step-requires
+    shared-slice-read-code
+    mul-d
+    shared-slice-read-d
+    target-requires
+    draw-requires
     encode-requires
+    tell-requires
+    encode-requires-2
     mul-replies
     slice-write-replies
     add-i

@@ -15,6 +15,7 @@ use Rattle.model.specs.Forms.{read-packed}
 use Rattle.model.specs.Calls.{counted, counted-refused}
 use Rattle.model.proofs.Told.{Success-of}
 use Rattle.fields.specs.Rows.{lay}
+use Rattle.reader.proofs.Moves.{none-moved}
 use Rattle.reader.specs.Rows.{Stands}
 use Rattle.engine.proofs.Whole.{refused-by, expression-passes, read-number, read-stands}
 use Rattle.listing.proofs.Whole.{moves-of, over-refuses, over-short, over-lists, All-drawn, draws-all}
@@ -67,7 +68,7 @@ draw-page-requires : tie.Need-draw-page-requires
 draw-page-requires c κs =
     let e = c .before .before .before .before .before .before in (
       record { lists = entry (e .before .before) .pre .lists; table = c .before .before .before .node-ends .ensures },
-      (record { tree = read e .got; stands = stands e }, (omega arith, omega arith)),
+      (record { tree = read e .got; stands = stands e }, (omega arith, none-moved)),
     )
 
 -- every member stands in the page
