@@ -1,0 +1,77 @@
+// The public calls for C and Rust: a static library. Each passes its arguments on and promises, for all of them, what the call
+// behind it promises. A slice is a pointer and a length to C; include/zwailmoor.h declares the same functions. No function keeps
+// anything between calls, and none calls C.
+ghost use mathlib.Core.Path.{_≡_};
+ghost use Rattle.model.specs.Lists.{span-of};
+ghost use Rattle.model.specs.Calls.{written, delivered, ran, unpack-expression, pack-expression, decode-delivery, encode-delivery, run-call};
+ghost use Rattle.model.specs.Demands.{Third-demand-met};
+ghost use Rattle.lists.specs.Span.{span-says};
+use lists::Span;
+use model::Delivered;
+use model::Ran;
+use model::Written;
+
+// A packed expression into its row form.
+#[no_mangle]
+pub extern "C" fn zwailmoor_unpack_expression(bytes: &[u8], lists: usize, row: &mut [u8]) -> Written
+    ensures { λ r. ⌜ written r (now (row .exit)) ≡ unpack-expression (now (bytes .entry)) lists (now (row .entry)) ⌝ }
+{
+    forms::unpack_expression(bytes, lists, row)
+}
+
+// The row form of an expression into its packed form.
+#[no_mangle]
+pub extern "C" fn zwailmoor_pack_expression(row: &[u8], lists: usize, bytes: &mut [u8]) -> Written
+    ensures { λ r. ⌜ written r (now (bytes .exit)) ≡ pack-expression (now (row .entry)) lists (now (bytes .entry)) ⌝ }
+{
+    forms::pack_expression(row, lists, bytes)
+}
+
+// Reads a delivery.
+#[no_mangle]
+pub extern "C" fn zwailmoor_decode_delivery(
+    bytes: &[u8],
+    numbers: &mut [u32],
+    ends: &mut [u32],
+) -> Delivered
+    ensures { λ r. ⌜ delivered r (now (numbers .exit)) (now (ends .exit)) ≡ decode-delivery (now (bytes .entry)) (now (numbers .entry)) (now (ends .entry)) ⌝ }
+{
+    decode::decode_delivery(bytes, numbers, ends)
+}
+
+// Writes a delivery.
+#[no_mangle]
+pub extern "C" fn zwailmoor_encode_delivery(
+    numbers: &[u32],
+    ends: &[u32],
+    bytes: &mut [u8],
+) -> Written
+    ensures { λ r. ⌜ written r (now (bytes .exit)) ≡ encode-delivery (now (numbers .entry)) (now (ends .entry)) (now (bytes .entry)) ⌝ }
+{
+    encode::encode_delivery(numbers, ends, bytes)
+}
+
+// Where the part of list k stands in the numbers, and its length: C has no slice to hand back.
+#[no_mangle]
+pub extern "C" fn zwailmoor_list_span(numbers: &[u32], ends: &[u32], k: usize) -> Span
+    ensures { λ r. ⌜ span-says r ≡ span-of (now (numbers .entry)) (now (ends .entry)) k ⌝ }
+{
+    lists::list_span(numbers, ends, k)
+}
+
+// A run.
+#[no_mangle]
+pub extern "C" fn zwailmoor_run(
+    numbers: &[u32],
+    ends: &[u32],
+    packed: &[u8],
+    bookmark: u64,
+    codes: &[u8],
+    arguments: &[u32],
+    replies: &mut [u64],
+) -> Ran
+    ensures call { λ r. ⌜ ran r (now (replies .exit)) ≡ run-call (now (numbers .entry)) (now (ends .entry)) (now (packed .entry)) bookmark (now (codes .entry)) (now (arguments .entry)) (now (replies .entry)) ⌝ }
+    ensures demand { λ r. ⌜ Third-demand-met (now (numbers .entry)) (now (ends .entry)) (now (packed .entry)) bookmark (now (codes .entry)) (now (arguments .entry)) (now (replies .entry)) (ran r (now (replies .exit))) ⌝ }
+{
+    engine::run(numbers, ends, packed, bookmark, codes, arguments, replies)
+}
