@@ -1,0 +1,174 @@
+/*
+ * A console's question, asked page by page. The input is one byte, the expression's length; the packed expression; the delivery.
+ * In samples/console the lists are team, partners, held and withdrawn, and the expression says "(team or partners) and held, but
+ * not withdrawn".
+ *
+ *     target/console [FILE]       (without FILE: samples/console)
+ *
+ * The exit status is 0 if every member was printed, else 1, and standard error says why.
+ */
+#include <inttypes.h>
+#include <stdint.h>
+#include <stdio.h>
+
+#include "zwailmoor.h"
+
+#define PAGE 2
+#define INPUT 65535
+/* A number takes at least one bit of a delivery, so this row is long enough for every input. */
+#define NUMBERS (8 * INPUT)
+
+struct question {
+    const uint8_t *packed;
+    size_t packed_length;
+    size_t lists;
+    size_t count;
+};
+
+/* One place more than an input may have, so that a longer one is seen. */
+static uint8_t input[INPUT + 1];
+static uint32_t numbers[NUMBERS];
+static uint32_t ends[ZWAILMOOR_LISTS];
+
+#define REFUSAL(name, sentence) {ZWAILMOOR_##name, "ZWAILMOOR_" #name, sentence}
+
+static const struct {
+    uint32_t number;
+    const char *name;
+    const char *sentence;
+} refusals[] = {
+    REFUSAL(ENDS_EARLY, "the bytes end too early"),
+    REFUSAL(TOO_MANY_NODES, "the expression has more than 48 nodes"),
+    REFUSAL(TOO_DEEP, "the expression is deeper than 12"),
+    REFUSAL(NO_SUCH_LIST, "the expression names a list that is not there"),
+    REFUSAL(LEFT_OVER, "something is left over behind the end, or a fill bit is 1"),
+    REFUSAL(ROW_TOO_SHORT, "a lent row is too short for the result"),
+    REFUSAL(NUMBER_OF_LISTS, "there are no lists, or more than 32"),
+    REFUSAL(GAP_PASSES_TOP, "a delivered number would pass 4294967295"),
+    REFUSAL(WIDTH_NOT_LEAST, "a delivered list is not packed in the least width"),
+    REFUSAL(BAD_ENDS, "an end falls or passes the row, or a list has more than 65535 numbers"),
+    REFUSAL(NOT_ASCENDING, "a list does not ascend, or holds a number twice"),
+    REFUSAL(BAD_BOOKMARK, "the bookmark is above 4294967296"),
+    REFUSAL(LENGTHS_DIFFER, "codes and arguments differ in length, or the row of replies is shorter than the codes"),
+    REFUSAL(UNKNOWN_BYTE, "a byte of the expression's row stands for no node"),
+};
+
+/* Says what is wrong with which part of the input. Always 1, for the exit status. */
+static int refused(const char *part, uint32_t number)
+{
+    size_t i;
+
+    for (i = 0; i < sizeof refusals / sizeof refusals[0]; i++)
+        if (refusals[i].number == number) {
+            (void)fprintf(stderr, "%s is refused, %s: %s.\n", part, refusals[i].name, refusals[i].sentence);
+            return 1;
+        }
+    (void)fprintf(stderr, "%s is refused, with a number that stands for nothing: %" PRIu32 ".\n", part, number);
+    return 1;
+}
+
+/* The file's bytes into `input`; 0 on success. */
+static int read_input(const char *path, size_t *length)
+{
+    FILE *file = fopen(path, "rb");
+    int failed;
+
+    if (file == NULL) {
+        perror(path);
+        return 1;
+    }
+    *length = fread(input, 1, sizeof input, file);
+    failed = ferror(file);
+    if (fclose(file) != 0 || failed) {
+        (void)fprintf(stderr, "%s could not be read.\n", path);
+        return 1;
+    }
+    if (*length > INPUT) {
+        (void)fprintf(stderr, "%s has more than %d bytes.\n", path, INPUT);
+        return 1;
+    }
+    return 0;
+}
+
+static void print_lists(const struct question *asked)
+{
+    size_t list, i;
+
+    for (list = 0; list < asked->lists; list++) {
+        zwailmoor_span span = zwailmoor_list_span(numbers, asked->count, ends, asked->lists, list);
+
+        printf("list %zu:", list);
+        for (i = 0; i < span.size; i++)
+            printf(" %" PRIu32, numbers[span.start + i]);
+        printf("\n");
+    }
+}
+
+/* Delivery into `numbers` and `ends`, and a look at the expression, so that a bad one is refused before the first page. */
+static int read_question(size_t length, struct question *asked)
+{
+    uint8_t row[ZWAILMOOR_NODES];
+    zwailmoor_delivered delivered;
+    zwailmoor_written unpacked;
+
+    if (length < 1 || length - 1 < input[0])
+        return refused("the input", ZWAILMOOR_ENDS_EARLY);
+    asked->packed = input + 1;
+    asked->packed_length = input[0];
+    delivered = zwailmoor_decode_delivery(asked->packed + asked->packed_length, length - 1 - asked->packed_length, numbers,
+                                          NUMBERS, ends, ZWAILMOOR_LISTS);
+    if (delivered.number != ZWAILMOOR_ACCEPTED)
+        return refused("the delivery", delivered.number);
+    unpacked = zwailmoor_unpack_expression(asked->packed, asked->packed_length, delivered.lists, row, ZWAILMOOR_NODES);
+    if (unpacked.number != ZWAILMOOR_ACCEPTED)
+        return refused("the expression", unpacked.number);
+    asked->lists = delivered.lists;
+    asked->count = delivered.numbers;
+    printf("lists %zu, numbers %zu, nodes %zu\n", delivered.lists, delivered.numbers, unpacked.count);
+    return 0;
+}
+
+/* Every page is a run of its own: all that is kept from one to the next is the bookmark. */
+static int print_members(const struct question *asked)
+{
+    static const uint8_t codes[PAGE] = {ZWAILMOOR_NEXT};
+    static const uint32_t arguments[PAGE] = {0};
+    uint64_t bookmark = ZWAILMOOR_FIRST_BOOKMARK;
+    uint64_t replies[PAGE] = {0};
+    size_t members = 0, page, i;
+
+    for (page = 1; replies[PAGE - 1] != ZWAILMOOR_FINISHED; page++) {
+        zwailmoor_ran ran = zwailmoor_run(numbers, asked->count, ends, asked->lists, asked->packed, asked->packed_length,
+                                          bookmark, codes, PAGE, arguments, PAGE, replies, PAGE);
+
+        if (ran.number != ZWAILMOOR_ACCEPTED)
+            return refused("the run", ran.number);
+        printf("page %zu from bookmark %" PRIu64 ":", page, bookmark);
+        for (i = 0; i < PAGE && replies[i] != ZWAILMOOR_FINISHED; i++)
+            printf(" %" PRIu64, replies[i]);
+        members += i;
+        bookmark = ran.bookmark;
+        printf("%s; go on from bookmark %" PRIu64 "\n", i < PAGE ? " finished" : "", bookmark);
+    }
+    printf("members %zu\n", members);
+    return 0;
+}
+
+int main(int argc, char **argv)
+{
+    const char *path = argc > 1 ? argv[1] : "samples/console";
+    struct question asked = {NULL, 0, 0, 0};
+    size_t length = 0;
+    int failed;
+
+    if (read_input(path, &length) != 0 || read_question(length, &asked) != 0)
+        return 1;
+    print_lists(&asked);
+    failed = print_members(&asked);
+    /* A print that failed is remembered by the stream, so one look at the end is enough. */
+    if (fflush(stdout) != 0 || ferror(stdout)) {
+        (void)fprintf(stderr, "The members could not all be printed.\n");
+        return 1;
+    }
+    return failed;
+}

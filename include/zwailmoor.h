@@ -1,0 +1,162 @@
+/*
+ * Zwailmoor, a list set engine: up to 32 ascending lists of numbers, combined by union, intersection and difference,
+ * whose members are drawn in order and can be taken up again at a bookmark.
+ *
+ * Link target/staticlib/libzwailmoor.a (x86-64 Linux), which `rt staticlib zwailmoor` proves and writes. It needs memcpy and
+ * memset of the C library, and nothing else. examples/console.c shows the calls at work.
+ *
+ * Rows. A row is an array that the caller lends for one call: a pointer, and behind it the number of elements (not of bytes).
+ *   - The library keeps no pointer once a call has returned, allocates nothing and frees nothing. All rows stay the caller's.
+ *   - No pointer may be NULL, not even where the length is 0, and each must be aligned for its type: the proof speaks of
+ *     references, which are so. For an empty row lend the address of any variable of the type.
+ *   - A row must really have the length that is said of it. No call can test that.
+ *   - A row that is written (one without const) must not overlap any other row of the same call. Rows that are only read may.
+ *
+ * Threads. The library has no state: any number of threads may call at once, as long as nobody writes a row while it is lent
+ * to another thread's call.
+ *
+ * Arguments. Apart from the rows' own conditions above, and given 16 kB of stack, every call takes any values, and ends. There is
+ * no earlier call that has to be made first: each call tests what it is given.
+ *
+ * Refusals. Every call but zwailmoor_list_span hands back a number: 0 (ZWAILMOOR_ACCEPTED), or what is wrong with the input. A
+ * refusal leaves every row as it was, and every other part of the result is 0. Where several apply, the one that is tested first
+ * is handed back; the order is said at each call. On success, elements of a row behind those written hold what they held.
+ */
+#ifndef ZWAILMOOR_H
+#define ZWAILMOOR_H
+
+#include <stddef.h>
+#include <stdint.h>
+
+#ifdef __cplusplus
+extern "C" {
+#endif
+
+/* The largest number of lists, of numbers in one list, of nodes of an expression, and its greatest depth (the root has 1). */
+#define ZWAILMOOR_LISTS 32
+#define ZWAILMOOR_LIST_NUMBERS 65535
+#define ZWAILMOOR_NODES 48
+#define ZWAILMOOR_DEPTH 12
+
+/* The bookmark to begin with, and the top one, behind every number: from there a next call replies finished. */
+#define ZWAILMOOR_FIRST_BOOKMARK UINT64_C(0)
+#define ZWAILMOOR_TOP_BOOKMARK UINT64_C(4294967296)
+
+/* What is handed back as `number`. */
+#define ZWAILMOOR_ACCEPTED 0          /* Nothing is wrong. */
+#define ZWAILMOOR_ENDS_EARLY 1        /* The bytes or the row end too early. */
+#define ZWAILMOOR_TOO_MANY_NODES 2    /* The expression has more than 48 nodes. */
+#define ZWAILMOOR_TOO_DEEP 3          /* The expression is deeper than 12. */
+#define ZWAILMOOR_NO_SUCH_LIST 4      /* The expression names a list that is not there. */
+#define ZWAILMOOR_LEFT_OVER 5         /* Something is left over behind the end, or a fill bit is 1. */
+#define ZWAILMOOR_ROW_TOO_SHORT 6     /* A lent row is too short for the result. */
+#define ZWAILMOOR_NUMBER_OF_LISTS 7   /* There are no lists, or more than 32. */
+#define ZWAILMOOR_GAP_PASSES_TOP 8    /* A delivered number would pass 4,294,967,295. */
+#define ZWAILMOOR_WIDTH_NOT_LEAST 9   /* A delivered list is not packed in the least width. */
+#define ZWAILMOOR_BAD_ENDS 10         /* An end falls or passes the row, or a list has more than 65,535 numbers. */
+#define ZWAILMOOR_NOT_ASCENDING 11    /* A list does not ascend, or holds a number twice. */
+#define ZWAILMOOR_BAD_BOOKMARK 12     /* The bookmark is above 4,294,967,296. */
+#define ZWAILMOOR_LENGTHS_DIFFER 13   /* Codes and arguments differ in length, or the replies' row is shorter than the codes. */
+#define ZWAILMOOR_UNKNOWN_BYTE 14     /* A byte of an expression's row stands for no node. */
+
+/* The codes of a run's calls. Any other code is replied to as unknown, and changes nothing. */
+#define ZWAILMOOR_NEXT 0              /* The least member not below the floor; its argument is ignored. */
+#define ZWAILMOOR_AT_OR_PAST 1        /* Raise the floor to the argument if it is lower, then as next. */
+#define ZWAILMOOR_PAST 2              /* Raise the floor to the argument plus 1 if it is lower, then as next. */
+#define ZWAILMOOR_CHECK 3             /* Is the argument a member, not below the floor? Then raise the floor to it if lower. */
+
+/* A reply up to UINT32_MAX is a member; the others are these. */
+#define ZWAILMOOR_NO UINT64_C(4294967296)
+#define ZWAILMOOR_YES UINT64_C(4294967297)
+#define ZWAILMOOR_FINISHED UINT64_C(4294967298)
+#define ZWAILMOOR_UNKNOWN UINT64_C(4294967299)
+
+/* The bytes of an expression's row form: a list's number 0 to 31 stands as itself; each node comes before its members. */
+#define ZWAILMOOR_DIFFERENCE 64             /* In the first of two nodes, not in the second. */
+#define ZWAILMOOR_UNION(nodes) (128 + (nodes))         /* Of 1 to 8 nodes. */
+#define ZWAILMOOR_INTERSECTION(nodes) (192 + (nodes))  /* Of 1 to 8 nodes. */
+
+/* What reading or writing one row hands back: how many elements were written. */
+typedef struct zwailmoor_written {
+    uint32_t number;
+    size_t count;
+} zwailmoor_written;
+
+/* What reading a delivery hands back: how many lists (and ends) and how many numbers were written. */
+typedef struct zwailmoor_delivered {
+    uint32_t number;
+    size_t lists;
+    size_t numbers;
+} zwailmoor_delivered;
+
+/* Where one list stands in the row of numbers. */
+typedef struct zwailmoor_span {
+    size_t start;
+    size_t size;
+} zwailmoor_span;
+
+/*
+ * What a run hands back: how far its readers moved in all; each node's place in expression order, 0 at operators and unused
+ * nodes; and the bookmark to go on from.
+ */
+typedef struct zwailmoor_ran {
+    uint32_t number;
+    uint32_t moves;
+    uint16_t places[ZWAILMOOR_NODES];
+    uint64_t bookmark;
+} zwailmoor_ran;
+
+/*
+ * Reads a packed expression over so many lists, and writes its row form: one byte a node, `count` of them. 48 places are always
+ * enough.
+ * Refusals: 7; at each node 2, 3, 1, 4; after the last node 5, then 6.
+ */
+zwailmoor_written zwailmoor_unpack_expression(const uint8_t *packed, size_t packed_length, size_t lists, uint8_t *row,
+                                              size_t row_length);
+
+/*
+ * Reads an expression's row form over so many lists, and writes it packed: `count` bytes. 41 places are always enough.
+ * Refusals: 7; at each node 2, 3, 1, 4 or 14; after the last node 5, then 6.
+ */
+zwailmoor_written zwailmoor_pack_expression(const uint8_t *row, size_t row_length, size_t lists, uint8_t *packed,
+                                            size_t packed_length);
+
+/*
+ * Reads a delivery, and writes the lists' numbers one list after the other, and one end for each list: list k stands from the
+ * end of list k - 1 (0 for the first) up to its own end, that end excluded. 32 places are always enough for the ends.
+ * Refusals: 1 wherever the bits run out; 7; 6 for the ends; then for each list 6 for the numbers, 8, 9; at the end 5.
+ */
+zwailmoor_delivered zwailmoor_decode_delivery(const uint8_t *delivery, size_t delivery_length, uint32_t *numbers,
+                                              size_t numbers_length, uint32_t *ends, size_t ends_length);
+
+/*
+ * Writes lists as a delivery: `count` bytes. There are as many lists as ends, and numbers behind the last end are ignored.
+ * Refusals: 7, 10, 11 (each over all lists before the next), 6.
+ */
+zwailmoor_written zwailmoor_encode_delivery(const uint32_t *numbers, size_t numbers_length, const uint32_t *ends,
+                                            size_t ends_length, uint8_t *delivery, size_t delivery_length);
+
+/*
+ * Where a list stands in the row of numbers: `size` numbers from numbers[start] on. Both are 0 if refusal 7, 10 or 11 would
+ * apply to the lists, or if there is no such list.
+ */
+zwailmoor_span zwailmoor_list_span(const uint32_t *numbers, size_t numbers_length, const uint32_t *ends, size_t ends_length,
+                                   size_t list);
+
+/*
+ * A run: puts the calls codes[i] with arguments[i] one after the other to the set that the packed expression denotes over the
+ * lists, and writes replies[i] for each. The floor begins at the bookmark; the bookmark handed back is the last floor, so a run
+ * over the same lists and expression from there goes on where this one ended; its moves and places are its own and begin at 0.
+ * A member that was drawn is not drawn again in this run, nor from the bookmark that it hands back.
+ * Refusals: 7, 10, 11 (each over all lists before the next); of the expression as in zwailmoor_unpack_expression 1 to 5; 12; 13.
+ */
+zwailmoor_ran zwailmoor_run(const uint32_t *numbers, size_t numbers_length, const uint32_t *ends, size_t ends_length,
+                            const uint8_t *packed, size_t packed_length, uint64_t bookmark, const uint8_t *codes,
+                            size_t codes_length, const uint32_t *arguments, size_t arguments_length, uint64_t *replies,
+                            size_t replies_length);
+
+#ifdef __cplusplus
+}
+#endif
+
+#endif
