@@ -1,0 +1,173 @@
+//! Before anything is timed: the hand-written peers and the engine agree on small inputs, good and bad, with every refusal
+//! that the calls have. A peer that tests less would be no fair measure.
+
+use crate::inputs::{Dice, Tree, SEED};
+use crate::peers::{bits, same_steps};
+use std::collections::BTreeMap;
+
+const INPUTS: usize = 50_000;
+const FILLED: u8 = 0xa5;
+
+/// How often each number came back, 0 for success.
+type Met = BTreeMap<u32, usize>;
+
+/// Expressions at the bounds, to be damaged or not: 48 nodes and 49, depth 12 and 13.
+fn expressions() -> Vec<Vec<u8>> {
+    let chain = |depth: usize| (1..depth).fold(Tree::List(0), |tree, _| Tree::Union(vec![tree]));
+    let wide = |last: usize| {
+        let mut members = vec![Tree::union_of(8); 5];
+        members.push(Tree::Intersection(vec![Tree::List(1); last]));
+        Tree::Union(members)
+    };
+    let many = [
+        Tree::console(),
+        Tree::union_of(8),
+        Tree::intersection_of(3),
+        Tree::difference(Tree::List(0), Tree::List(1)),
+    ];
+    let bounds = [chain(12), chain(13), wide(1), wide(2)];
+    many.iter().chain(&bounds).map(Tree::packed).collect()
+}
+
+/// Changes a bit, cuts or lengthens, about every second time.
+fn damaged(dice: &mut Dice, mut bytes: Vec<u8>) -> Vec<u8> {
+    match dice.below(8) {
+        0 => bytes.truncate(dice.below(bytes.len() as u64 + 1) as usize),
+        1 => bytes.push(dice.below(2) as u8),
+        2 | 3 if !bytes.is_empty() => {
+            let at = dice.below(bytes.len() as u64) as usize;
+            bytes[at] ^= 1 << dice.below(8);
+        }
+        _ => (),
+    }
+    bytes
+}
+
+/// Rows of up to 33 short lists; sometimes an end or a number is wrong.
+fn rows(dice: &mut Dice) -> (Vec<u32>, Vec<u32>) {
+    let lists = if dice.below(20) == 0 { dice.below(34) } else { 8 };
+    let base = if dice.below(8) == 0 { u32::MAX - 29 } else { 0 };
+    let (mut numbers, mut ends) = (Vec::new(), Vec::new());
+    for _ in 0..lists {
+        let size = dice.below(20) as usize;
+        numbers.extend(dice.subset(size, 30).into_iter().map(|x| base + x));
+        ends.push(numbers.len() as u32);
+    }
+    if dice.below(16) == 0 && !ends.is_empty() {
+        let at = dice.below(lists) as usize;
+        ends[at] = dice.below(numbers.len() as u64 + 3) as u32;
+    }
+    if dice.below(16) == 0 && !numbers.is_empty() {
+        let at = dice.below(numbers.len() as u64) as usize;
+        numbers[at] = dice.next() as u32;
+    }
+    (numbers, ends)
+}
+
+fn one_run(dice: &mut Dice, expressions: &[Vec<u8>]) -> u32 {
+    let (numbers, ends) = rows(dice);
+    let packed = expressions[dice.below(expressions.len() as u64) as usize].clone();
+    let packed = damaged(dice, packed);
+    let bookmark = if dice.below(8) == 0 {
+        (1 << 32) - 1 + dice.below(3)
+    } else {
+        dice.below(10)
+    };
+    let calls = dice.below(40) as usize;
+    let codes: Vec<u8> = (0..calls).map(|_| dice.below(5) as u8).collect();
+    let base = numbers.first().copied().unwrap_or(0);
+    let uneven = usize::from(dice.below(16) == 0);
+    let arguments: Vec<u32> = (0..calls + uneven)
+        .map(|_| base.saturating_add(dice.below(30) as u32))
+        .collect();
+    let room = (calls + 1).saturating_sub(2 * usize::from(dice.below(16) == 0));
+    let (mut a, mut b) = (vec![u64::MAX; room], vec![u64::MAX; room]);
+    let engine = zwailmoor::run(&numbers, &ends, &packed, bookmark, &codes, &arguments, &mut a);
+    let peer = same_steps::run(&numbers, &ends, &packed, bookmark, &codes, &arguments, &mut b);
+    let engine = engine.map_err(|refusal| refusal.number());
+    let engine = engine.map(|r| same_steps::Ran {
+        moves: r.moves,
+        places: r.places,
+        bookmark: r.bookmark,
+    });
+    assert_eq!(engine, peer, "a run differs: {packed:02x?} over {ends:?} of {numbers:?}");
+    assert_eq!(a, b, "replies differ: {packed:02x?} over {ends:?} of {numbers:?}");
+    engine.err().unwrap_or(0)
+}
+
+/// Writes a delivery by both; hands back what was written.
+fn one_encode(dice: &mut Dice) -> (u32, Vec<u8>) {
+    let (numbers, ends) = rows(dice);
+    let room = if dice.below(16) == 0 { 30 } else { 2000 };
+    let (mut a, mut b) = (vec![FILLED; room], vec![FILLED; room]);
+    let engine = zwailmoor::encode_delivery(&numbers, &ends, &mut a).map_err(|refusal| refusal.number());
+    assert_eq!(
+        engine,
+        bits::encode(&numbers, &ends, &mut b),
+        "writing differs: {ends:?} of {numbers:?}"
+    );
+    assert_eq!(a, b, "what is written differs: {ends:?} of {numbers:?}");
+    a.truncate(engine.unwrap_or(0));
+    (engine.err().unwrap_or(0), a)
+}
+
+fn one_decode(dice: &mut Dice, delivery: Vec<u8>) -> u32 {
+    let delivery = damaged(dice, delivery);
+    let rooms = if dice.below(16) == 0 {
+        (40, 8)
+    } else {
+        (700, 8 + 24 * dice.below(2) as usize)
+    };
+    let (mut a, mut b) = (vec![7; rooms.0], vec![7; rooms.0]);
+    let (mut a_ends, mut b_ends) = (vec![7; rooms.1], vec![7; rooms.1]);
+    let engine = zwailmoor::decode_delivery(&delivery, &mut a, &mut a_ends);
+    let engine = engine.map(|d| (d.lists, d.numbers)).map_err(|refusal| refusal.number());
+    assert_eq!(
+        engine,
+        bits::decode(&delivery, &mut b, &mut b_ends),
+        "reading differs: {delivery:02x?}"
+    );
+    assert!(a == b && a_ends == b_ends, "what is read differs: {delivery:02x?}");
+    engine.err().unwrap_or(0)
+}
+
+/// A list of 65,535 numbers is taken, one of 65,536 is not.
+fn longest_list() {
+    for (size, number) in [(65_535, 0), (65_536, 10)] {
+        let numbers: Vec<u32> = (0..size).collect();
+        let (ends, packed) = ([size], Tree::List(0).packed());
+        let engine = zwailmoor::run(&numbers, &ends, &packed, 0, &[], &[], &mut []).map_err(|refusal| refusal.number());
+        let steps = same_steps::run(&numbers, &ends, &packed, 0, &[], &[], &mut []);
+        let written = bits::encode(&numbers, &ends, &mut vec![0; 9_000]);
+        let numbers = [engine.err(), steps.err(), written.err()].map(|e| e.unwrap_or(0));
+        assert_eq!(numbers, [number; 3], "a list of {size} numbers");
+    }
+}
+
+fn report(call: &str, met: &Met, wanted: &[u32]) {
+    assert!(
+        met.keys().copied().eq(wanted.iter().copied()),
+        "{call}: not every refusal was met, or another: {met:?}"
+    );
+    let refusals: Vec<String> = met.iter().map(|(number, times)| format!("{number} {times} times")).collect();
+    println!("  {call}: {}", refusals.join(", "));
+}
+
+pub fn demand() {
+    longest_list();
+    let mut dice = Dice::new(SEED + 3);
+    let expressions = expressions();
+    let (mut runs, mut encodes, mut decodes) = (Met::new(), Met::new(), Met::new());
+    for _ in 0..INPUTS {
+        *runs.entry(one_run(&mut dice, &expressions)).or_default() += 1;
+        let (number, delivery) = one_encode(&mut dice);
+        *encodes.entry(number).or_default() += 1;
+        *decodes.entry(one_decode(&mut dice, delivery)).or_default() += 1;
+    }
+    println!(
+        "- the engine and the hand-written peers agree on {INPUTS} small inputs of each call, good and damaged. Numbers met:"
+    );
+    report("run", &runs, &[0, 1, 2, 3, 4, 5, 7, 10, 11, 12, 13]);
+    report("encode", &encodes, &[0, 6, 7, 10, 11]);
+    report("decode", &decodes, &[0, 1, 5, 6, 7, 8, 9]);
+}

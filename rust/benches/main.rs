@@ -1,0 +1,50 @@
+//! The engine beside other ways to the same answers: one program, one machine, the same input.
+
+mod agreement;
+mod checking;
+mod deliveries;
+mod drawing;
+mod growth;
+mod inputs;
+mod machine;
+mod peers;
+mod table;
+mod timing;
+mod verdict;
+
+fn print_method() {
+    println!("# Benchmarks\n");
+    machine::print();
+    println!(
+        "- input: a SplitMix64 generator, seed {:#x}. Lists are random subsets of 0..200,000, so that of any list",
+        inputs::SEED
+    );
+    println!(
+        "  about 30 in 100 stand in any other (intersection of 4: of 0..80,000, 75 in 100); \"wide gaps\" are random 32-bit"
+    );
+    println!("  numbers, which hardly ever meet. In the tables of growth the subsets are as dense as those of 0..200,000");
+    println!(
+        "- time: {} samples of about {} ms or one repeat, the contenders of a case in turns; ratios are of best times",
+        timing::SAMPLES,
+        timing::SAMPLE_MILLISECONDS
+    );
+    println!(
+        "- caches are warm: each sample has one repeat off the clock before it. Rows are not cleared between repeats, except"
+    );
+    println!("  where it says zeroed; zeroing is off the clock");
+    println!("- engine: one run through the library, its tests of lists and expression counted; codes, arguments and reply row");
+    println!("  are prepared. Same steps: the same in idiomatic Rust, with the same tests, refusals, replies, moves and places");
+    println!("- BTreeSet, CRoaring and sqlite3 work on prepared sets, bitmaps and tables; building them is a column of its own.");
+    println!("  Merges and BTreeSet make a new vector for the result, CRoaring and sqlite3 write into a prepared row");
+    println!("- before it is timed, every contender's whole result is compared with the others'");
+}
+
+fn main() {
+    print_method();
+    agreement::demand();
+    let drawn = drawing::all();
+    let checks = checking::run();
+    let speeds = deliveries::all();
+    growth::all();
+    verdict::print(&drawn, &checks, &speeds);
+}

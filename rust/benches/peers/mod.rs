@@ -1,0 +1,10 @@
+//! The other contenders.
+
+pub mod bits;
+pub mod btree;
+#[cfg(peer_roaring)]
+pub mod croaring;
+pub mod merges;
+pub mod same_steps;
+#[cfg(peer_sqlite3)]
+pub mod sqlite;

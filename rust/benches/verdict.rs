@@ -1,0 +1,105 @@
+//! The end of the output: what was asked for, and whether it was reached.
+
+use crate::deliveries::Speed;
+use crate::drawing::Drawn;
+use crate::table::Table;
+use crate::timing::{Ratio, Results};
+
+/// At most so many times as long as the same steps by hand.
+const SAME_STEPS: f64 = 1.5;
+/// MB of the numbers row a second, at least.
+const MEGABYTES: f64 = 100.0;
+
+fn word(reached: bool) -> &'static str {
+    if reached {
+        "reached"
+    } else {
+        "missed"
+    }
+}
+
+/// Reached where both ratios are: one lucky sample is not enough.
+fn judged(ratio: Option<Ratio>, holds: fn(f64) -> bool) -> String {
+    ratio.map_or("not installed".into(), |r| {
+        format!("{:.2} ({:.2}) {}", r.best, r.rounds, word(holds(r.best) && holds(r.rounds)))
+    })
+}
+
+fn waited(results: &Results) -> String {
+    results
+        .waited
+        .map_or("not known".into(), |share| format!("{:.0}%", share * 100.0))
+}
+
+/// Engine / same steps.
+fn against_same(ratio: Option<Ratio>) -> String {
+    judged(ratio, |r| r <= SAME_STEPS)
+}
+
+/// Engine / peer, here the sum of some contenders: reached where the engine is ahead.
+fn against(results: &Results, peer: &[&str]) -> String {
+    let below: Vec<(f64, &str)> = peer.iter().map(|&name| (1.0, name)).collect();
+    judged(results.ratio(&[(1.0, "engine")], &below), |r| r < 1.0)
+}
+
+fn print_drawing(drawn: &[Drawn]) {
+    let mut table = Table::new(&[
+        "case",
+        "same steps, whole",
+        "same steps, drawing alone",
+        "BTreeSet",
+        "BTreeSet with building",
+        "sqlite3",
+        "waited",
+    ]);
+    for d in drawn {
+        let [whole, alone] = d.ratios();
+        table.row(vec![
+            d.case.name.clone(),
+            against_same(whole),
+            against_same(alone),
+            against(&d.results, &["BTreeSet"]),
+            against(&d.results, &["BTreeSet", "BTreeSet, building"]),
+            against(&d.results, &["sqlite3"]),
+            waited(&d.results),
+        ]);
+    }
+    table.print("Verdict: engine / peer (same steps: at most 1.50; the others: below 1)");
+}
+
+fn print_checks(checks: &Results) {
+    let mut table = Table::new(&["100,000 checks against", "engine / peer"]);
+    let same = checks.ratio(&[(1.0, "engine")], &[(1.0, "same steps")]);
+    table.row(vec!["same steps, whole".into(), against_same(same)]);
+    for name in [
+        "BTreeSet, finished set",
+        "BTreeSet, each expression",
+        "sqlite3, each expression",
+    ] {
+        table.row(vec![name.into(), against(checks, &[name])]);
+    }
+    table.row(vec!["waited".into(), waited(checks)]);
+    table.print("Verdict: checks");
+}
+
+fn print_speeds(speeds: &[Speed]) {
+    let mut table = Table::new(&["delivery", "MB/s"]);
+    for speed in speeds.iter().filter(|speed| speed.work.contains("engine")) {
+        let verdict = word(speed.best() >= MEGABYTES);
+        table.row(vec![speed.work.clone(), format!("{:.0} {verdict}", speed.best())]);
+    }
+    table.print("Verdict: deliveries (at least 100 MB/s)");
+}
+
+const NOTE: &str = "
+In the verdicts the first figure is the ratio of best times, the one in brackets the median of the ratios within each
+round of samples. \"Reached\" asks for both; where the two stand on both sides of the mark it is too close to tell.
+\"Waited\" is the share of the time in which other programs had the processor: above a few in 100 the case should be
+timed again on a quieter machine.";
+
+pub fn print(drawn: &[Drawn], checks: &Results, speeds: &[Speed]) {
+    println!("{NOTE}");
+    print_drawing(drawn);
+    print_checks(checks);
+    print_speeds(speeds);
+}

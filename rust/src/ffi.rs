@@ -1,0 +1,163 @@
+//! The engine's six C calls, and the only `unsafe` of this package.
+//!
+//! Each function here lends slices for one call. What the engine asks of its caller (`include/zwailmoor.h`) a slice is by its
+//! type: its pointer is aligned and never null, also where it is empty; it has as many elements as it says; and a `&mut` slice
+//! overlaps no other slice. The engine keeps no pointer, and takes every value. In C a slice is two arguments, pointer and
+//! length. They must be declared so: Rust's own `&[T]` in an `extern "C"` signature is passed otherwise once registers run out.
+
+/// What reading or writing one row hands back.
+#[repr(C)]
+#[derive(Debug, Clone, Copy, PartialEq, Eq)]
+pub struct Written {
+    pub number: u32,
+    pub count: usize,
+}
+
+/// What reading a delivery hands back.
+#[repr(C)]
+#[derive(Debug, Clone, Copy, PartialEq, Eq)]
+pub struct Delivered {
+    pub number: u32,
+    pub lists: usize,
+    pub numbers: usize,
+}
+
+/// Where one list stands.
+#[repr(C)]
+#[derive(Debug, Clone, Copy, PartialEq, Eq)]
+pub struct Span {
+    pub start: usize,
+    pub size: usize,
+}
+
+/// What a run hands back.
+#[repr(C)]
+#[derive(Debug, Clone, Copy, PartialEq, Eq)]
+pub struct Ran {
+    pub number: u32,
+    pub moves: u32,
+    pub places: [u16; 48],
+    pub bookmark: u64,
+}
+
+extern "C" {
+    fn zwailmoor_unpack_expression(
+        packed: *const u8,
+        packed_length: usize,
+        lists: usize,
+        row: *mut u8,
+        row_length: usize,
+    ) -> Written;
+    fn zwailmoor_pack_expression(
+        row: *const u8,
+        row_length: usize,
+        lists: usize,
+        packed: *mut u8,
+        packed_length: usize,
+    ) -> Written;
+    fn zwailmoor_decode_delivery(
+        delivery: *const u8,
+        delivery_length: usize,
+        numbers: *mut u32,
+        numbers_length: usize,
+        ends: *mut u32,
+        ends_length: usize,
+    ) -> Delivered;
+    fn zwailmoor_encode_delivery(
+        numbers: *const u32,
+        numbers_length: usize,
+        ends: *const u32,
+        ends_length: usize,
+        delivery: *mut u8,
+        delivery_length: usize,
+    ) -> Written;
+    fn zwailmoor_list_span(numbers: *const u32, numbers_length: usize, ends: *const u32, ends_length: usize, list: usize)
+        -> Span;
+    fn zwailmoor_run(
+        numbers: *const u32,
+        numbers_length: usize,
+        ends: *const u32,
+        ends_length: usize,
+        packed: *const u8,
+        packed_length: usize,
+        bookmark: u64,
+        codes: *const u8,
+        codes_length: usize,
+        arguments: *const u32,
+        arguments_length: usize,
+        replies: *mut u64,
+        replies_length: usize,
+    ) -> Ran;
+}
+
+pub fn unpack_expression(packed: &[u8], lists: usize, row: &mut [u8]) -> Written {
+    // SAFETY: both pairs are slices, and `row`, the one written, is `&mut`.
+    unsafe { zwailmoor_unpack_expression(packed.as_ptr(), packed.len(), lists, row.as_mut_ptr(), row.len()) }
+}
+
+pub fn pack_expression(row: &[u8], lists: usize, packed: &mut [u8]) -> Written {
+    // SAFETY: both pairs are slices, and `packed`, the one written, is `&mut`.
+    unsafe { zwailmoor_pack_expression(row.as_ptr(), row.len(), lists, packed.as_mut_ptr(), packed.len()) }
+}
+
+pub fn decode_delivery(delivery: &[u8], numbers: &mut [u32], ends: &mut [u32]) -> Delivered {
+    // SAFETY: all pairs are slices, and the two that are written are `&mut`, so apart from each other.
+    unsafe {
+        zwailmoor_decode_delivery(
+            delivery.as_ptr(),
+            delivery.len(),
+            numbers.as_mut_ptr(),
+            numbers.len(),
+            ends.as_mut_ptr(),
+            ends.len(),
+        )
+    }
+}
+
+pub fn encode_delivery(numbers: &[u32], ends: &[u32], delivery: &mut [u8]) -> Written {
+    // SAFETY: all pairs are slices, and `delivery`, the one written, is `&mut`; those that are only read may overlap.
+    unsafe {
+        zwailmoor_encode_delivery(
+            numbers.as_ptr(),
+            numbers.len(),
+            ends.as_ptr(),
+            ends.len(),
+            delivery.as_mut_ptr(),
+            delivery.len(),
+        )
+    }
+}
+
+pub fn list_span(numbers: &[u32], ends: &[u32], list: usize) -> Span {
+    // SAFETY: both pairs are slices, and nothing is written.
+    unsafe { zwailmoor_list_span(numbers.as_ptr(), numbers.len(), ends.as_ptr(), ends.len(), list) }
+}
+
+pub fn run(
+    numbers: &[u32],
+    ends: &[u32],
+    packed: &[u8],
+    bookmark: u64,
+    codes: &[u8],
+    arguments: &[u32],
+    replies: &mut [u64],
+) -> Ran {
+    // SAFETY: all pairs are slices, and `replies`, the one written, is `&mut`; those that are only read may overlap.
+    unsafe {
+        zwailmoor_run(
+            numbers.as_ptr(),
+            numbers.len(),
+            ends.as_ptr(),
+            ends.len(),
+            packed.as_ptr(),
+            packed.len(),
+            bookmark,
+            codes.as_ptr(),
+            codes.len(),
+            arguments.as_ptr(),
+            arguments.len(),
+            replies.as_mut_ptr(),
+            replies.len(),
+        )
+    }
+}

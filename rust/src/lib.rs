@@ -1,0 +1,50 @@
+//! Safe calls to Zwailmoor, a proved list set engine.
+//!
+//! Up to 32 ascending lists of numbers are lent as all numbers in one row and one end for each list. An expression combines them
+//! by union, intersection and difference. A [`run`] draws members of the result in order, or checks them, and hands back a
+//! bookmark from which a later run goes on; [`members`] is all of them as an iterator.
+//!
+//! No call allocates (only [`members`] does), keeps a slice or has state. Every call takes any values; what is wrong comes back as
+//! a [`Refusal`], and all lent rows are then as they were. On success, elements behind those written hold what they held.
+//!
+//! # "(team or partners) and held, but not withdrawn"
+//!
+//! ```
+//! // team, partners, held, withdrawn
+//! let numbers = [101, 104, 107, 110, 102, 104, 108, 101, 102, 104, 107, 108, 104, 107];
+//! let ends = [4, 7, 12, 14];
+//!
+//! // A difference of (an intersection of two: a union of two, lists 0 and 1; list 2) and list 3.
+//! let row = [64, 194, 130, 0, 1, 2, 3];
+//! let mut packed = [0; 41];
+//! let length = zwailmoor::pack_expression(&row, ends.len(), &mut packed)?;
+//! let packed = &packed[..length];
+//!
+//! let mut members = zwailmoor::members(&numbers, &ends, packed, 0, 100)?;
+//! assert_eq!(members.next(), Some(101));
+//!
+//! // Broken off here, and taken up again later.
+//! let bookmark = members.bookmark();
+//! assert_eq!(bookmark, 102);
+//! let rest: Vec<u32> = zwailmoor::members(&numbers, &ends, packed, bookmark, 100)?.collect();
+//! assert_eq!(rest, [102, 108]);
+//! # Ok::<(), zwailmoor::Refusal>(())
+//! ```
+
+#![deny(missing_docs)]
+#![deny(unsafe_code)]
+
+mod call;
+mod calls;
+#[allow(unsafe_code)]
+mod ffi;
+mod members;
+mod refusal;
+
+pub use call::{Call, Reply};
+pub use calls::{decode_delivery, encode_delivery, list_part, pack_expression, run, unpack_expression, Delivered, Ran};
+pub use members::{members, Members};
+pub use refusal::Refusal;
+
+#[cfg(test)]
+mod tests;

@@ -1,0 +1,50 @@
+//! The paper's small inputs and examples, and the iterator.
+
+mod members;
+mod paper;
+mod refusals;
+
+use crate::{run, Call, Ran, Refusal, Reply};
+
+const FIRST: &[u32] = &[0, 1, 2, 5, 6, 8, 9];
+const SECOND: &[u32] = &[0, 2, 3, 4, 5];
+const THIRD: &[u32] = &[2, 3, 6, 8, 9];
+const FOURTH: &[u32] = &[0, 1, 2, 3, 7, 9];
+
+const TOP: u64 = 4_294_967_296;
+
+/// Lists one after the other, and their ends.
+fn lent(lists: &[&[u32]]) -> (Vec<u32>, Vec<u32>) {
+    let mut numbers = Vec::new();
+    let mut ends = Vec::new();
+    for list in lists {
+        numbers.extend_from_slice(list);
+        ends.push(numbers.len() as u32);
+    }
+    (numbers, ends)
+}
+
+/// An expression's row form, packed.
+fn packed(row: &[u8]) -> Vec<u8> {
+    let mut bytes = [0; 41];
+    let length = crate::pack_expression(row, 32, &mut bytes).unwrap();
+    bytes[..length].to_vec()
+}
+
+/// A run over lists and a row form.
+fn ask(lists: &[&[u32]], row: &[u8], bookmark: u64, calls: &[Call]) -> Result<(Vec<Reply>, Ran), Refusal> {
+    let (numbers, ends) = lent(lists);
+    let codes: Vec<u8> = calls.iter().map(|call| call.code()).collect();
+    let arguments: Vec<u32> = calls.iter().map(|call| call.argument()).collect();
+    let mut replies = vec![0; calls.len()];
+    let ran = run(&numbers, &ends, &packed(row), bookmark, &codes, &arguments, &mut replies)?;
+    let replies = replies.into_iter().map(|reply| Reply::from_row(reply).unwrap()).collect();
+    Ok((replies, ran))
+}
+
+/// 48 places, these first.
+fn places(first: &[u16]) -> [u16; 48] {
+    let mut places = [0; 48];
+    places[..first.len()].copy_from_slice(first);
+    places
+}

@@ -1,0 +1,206 @@
+//! Deliveries read and written, and the part of one list.
+
+use crate::evaluator::{delivery as model, lists};
+use crate::ffi;
+use crate::inputs::{delivery, lent, lent_lists, long_list, longest, room, some_lists};
+use crate::random::{cases, seed, Random};
+use crate::rows::Lent;
+use crate::tally::Tally;
+
+// The case's number is only printed.
+#[allow(dead_code)]
+#[derive(Debug)]
+struct Delivery {
+    number: u64,
+    bytes: Vec<u8>,
+    numbers_room: usize,
+    ends_room: usize,
+}
+
+fn delivery_case(number: u64) -> Delivery {
+    let mut random = Random::of_case(seed() ^ 3, number);
+    let bytes = if random.one_in(20) {
+        let count = random.below(20);
+        random.bytes(count)
+    } else if random.one_in(2000) {
+        let lists = [some_lists(&mut random), vec![long_list(&mut random)[..65_535].to_vec()]].concat();
+        let (numbers, ends) = lent(&lists);
+        model::encode(&numbers, &ends, usize::MAX).unwrap_or_default()
+    } else {
+        delivery(&mut random)
+    };
+    let (numbers, ends) = match model::decode(&bytes, usize::MAX, 64) {
+        Ok((numbers, ends)) => (numbers.len(), ends.len()),
+        Err(_) => (random.below(60), random.below(40)),
+    };
+    // One row at a time is too short, so that the order of the other tests is seen.
+    let generous = random.one_in(3);
+    Delivery {
+        number,
+        bytes,
+        numbers_room: if generous { numbers + 100 } else { room(&mut random, numbers) },
+        ends_room: if random.one_in(2) { 33 } else { room(&mut random, ends) },
+    }
+}
+
+fn compare_delivery(case: &Delivery, expected: &Result<(Vec<u32>, Vec<u32>), u32>) {
+    let none = (vec![], vec![]);
+    let number = expected.as_ref().err().copied().unwrap_or(0);
+    let (numbers, ends) = expected.as_ref().unwrap_or(&none);
+
+    let (mut numbers_lent, mut ends_lent) = (Lent::new(case.numbers_room), Lent::new(case.ends_room));
+    let sent = ffi::decode_delivery(&case.bytes, numbers_lent.row(), ends_lent.row());
+    assert_eq!(
+        (sent.number, sent.lists, sent.numbers),
+        (number, ends.len(), numbers.len()),
+        "{case:#?}"
+    );
+    numbers_lent.assert_holds(numbers, "the numbers", case);
+    ends_lent.assert_holds(ends, "the ends", case);
+
+    let (mut numbers_lent, mut ends_lent) = (Lent::new(case.numbers_room), Lent::new(case.ends_room));
+    let result = zwailmoor::decode_delivery(&case.bytes, numbers_lent.row(), ends_lent.row());
+    let parts = result
+        .map(|delivered| (delivered.lists, delivered.numbers))
+        .map_err(|refusal| refusal.number());
+    assert_eq!(
+        parts,
+        if number == 0 {
+            Ok((ends.len(), numbers.len()))
+        } else {
+            Err(number)
+        },
+        "{case:#?}"
+    );
+    numbers_lent.assert_holds(numbers, "the numbers by the wrapper", case);
+    ends_lent.assert_holds(ends, "the ends by the wrapper", case);
+}
+
+#[test]
+fn decode_delivery() {
+    let mut tally = Tally::default();
+    for number in 0..cases() {
+        let case = delivery_case(number);
+        let expected = model::decode(&case.bytes, case.numbers_room, case.ends_room);
+        compare_delivery(&case, &expected);
+        if let Ok((numbers, ends)) = &expected {
+            let mut back = vec![0; case.bytes.len()];
+            let length = zwailmoor::encode_delivery(numbers, ends, &mut back);
+            assert_eq!((length, &back), (Ok(back.len()), &case.bytes), "written back: {case:#?}");
+            tally.edge("32 lists", ends.len() == 32);
+            tally.edge("a list of 65,535", longest(ends) == 65_535);
+            tally.edge(
+                "both rows exact",
+                numbers.len() == case.numbers_room && ends.len() == case.ends_room,
+            );
+        }
+        tally.count(&expected);
+    }
+    tally.close("decode_delivery", seed(), &[1, 5, 6, 7, 8, 9]);
+}
+
+// The case's number is only printed.
+#[allow(dead_code)]
+#[derive(Debug)]
+struct Lists {
+    number: u64,
+    numbers: Vec<u32>,
+    ends: Vec<u32>,
+    room: usize,
+    list: usize,
+}
+
+fn lists_case(salt: u64, number: u64) -> Lists {
+    let mut random = Random::of_case(seed() ^ salt, number);
+    let (numbers, ends) = if random.one_in(2000) {
+        let place = random.below(3);
+        let mut lists = some_lists(&mut random);
+        lists.insert(place.min(lists.len()), long_list(&mut random));
+        lent(&lists)
+    } else {
+        lent_lists(&mut random)
+    };
+    let needed = model::encode(&numbers, &ends, usize::MAX).map_or(random.below(80), |bytes| bytes.len());
+    let room = room(&mut random, needed);
+    let list = match random.below(12) {
+        0 => ends.len(),
+        1 => random.pick(&[31, 32, 33, 1 << 32, usize::MAX]),
+        _ => random.below(ends.len().max(1)),
+    };
+    Lists {
+        number,
+        numbers,
+        ends,
+        room,
+        list,
+    }
+}
+
+fn compare_lists(case: &Lists, expected: &Result<Vec<u8>, u32>) {
+    let (number, written): (u32, &[u8]) = match expected {
+        Ok(written) => (0, written),
+        Err(number) => (*number, &[]),
+    };
+    let mut lent = Lent::new(case.room);
+    let sent = ffi::encode_delivery(&case.numbers, &case.ends, lent.row());
+    assert_eq!((sent.number, sent.count), (number, written.len()), "{case:#?}");
+    lent.assert_holds(written, "the bytes", case);
+
+    let mut lent = Lent::new(case.room);
+    let result = zwailmoor::encode_delivery(&case.numbers, &case.ends, lent.row());
+    let count = if number == 0 { Ok(written.len()) } else { Err(number) };
+    assert_eq!(result.map_err(|refusal| refusal.number()), count, "{case:#?}");
+    lent.assert_holds(written, "the bytes by the wrapper", case);
+}
+
+fn compare_read_back(case: &Lists, written: &[u8]) {
+    let (mut numbers, mut ends) = (vec![0; case.numbers.len()], [0; 32]);
+    let read = zwailmoor::decode_delivery(written, &mut numbers, &mut ends).expect("what was written reads");
+    let (numbers, ends) = (&numbers[..read.numbers], &ends[..read.lists]);
+    let used = *case.ends.last().expect("accepted lists") as usize;
+    assert_eq!(
+        (numbers, ends),
+        (&case.numbers[..used], &case.ends[..]),
+        "read back: {case:#?}"
+    );
+}
+
+#[test]
+fn encode_delivery() {
+    let mut tally = Tally::default();
+    for number in 0..cases() {
+        let case = lists_case(4, number);
+        let expected = model::encode(&case.numbers, &case.ends, case.room);
+        compare_lists(&case, &expected);
+        if let Ok(written) = &expected {
+            compare_read_back(&case, written);
+            tally.edge("32 lists", case.ends.len() == 32);
+            tally.edge("a list of 65,535", longest(&case.ends) == 65_535);
+            tally.edge(
+                "numbers behind the last end",
+                case.ends.last() < Some(&(case.numbers.len() as u32)),
+            );
+            tally.edge("an exact row", written.len() == case.room);
+        }
+        tally.count(&expected);
+    }
+    tally.close("encode_delivery", seed(), &[6, 7, 10, 11]);
+}
+
+#[test]
+fn list_part() {
+    let mut tally = Tally::default();
+    for number in 0..cases() {
+        let case = lists_case(5, number);
+        let expected = lists::part(&case.numbers, &case.ends, case.list);
+        let span = ffi::list_span(&case.numbers, &case.ends, case.list);
+        assert_eq!((span.start, span.size), (expected.start, expected.len()), "{case:#?}");
+        let part = zwailmoor::list_part(&case.numbers, &case.ends, case.list);
+        assert_eq!(part.as_ptr_range(), case.numbers[expected].as_ptr_range(), "{case:#?}");
+        let accepted = lists::accepted(&case.numbers, &case.ends);
+        tally.edge("no such list", accepted.is_ok() && case.list >= case.ends.len());
+        tally.count(&accepted);
+    }
+    // No refusal comes of this call: these are the lists' own, for which the part is empty.
+    tally.close("list_part", seed(), &[7, 10, 11]);
+}

@@ -1,0 +1,119 @@
+//! Both forms of an expression.
+
+use crate::evaluator::expression as model;
+use crate::ffi;
+use crate::inputs::{damage, expression_row, list_count, packed_anyway, room};
+use crate::random::{cases, seed, Random};
+use crate::rows::Lent;
+use crate::tally::Tally;
+
+// The case's number is only printed.
+#[allow(dead_code)]
+#[derive(Debug)]
+struct Case {
+    number: u64,
+    bytes: Vec<u8>,
+    lists: usize,
+    room: usize,
+}
+
+/// What the engine was asked, and all that it sent back, against the evaluator.
+fn compare(case: &Case, expected: &Result<Vec<u8>, u32>, raw: Raw, wrapper: Wrapper) {
+    let mut lent = Lent::new(case.room);
+    let sent = raw(&case.bytes, case.lists, lent.row());
+    let (number, written): (u32, &[u8]) = match expected {
+        Ok(written) => (0, written),
+        Err(number) => (*number, &[]),
+    };
+    assert_eq!((sent.number, sent.count), (number, written.len()), "{case:#?}");
+    lent.assert_holds(written, "the bytes", case);
+
+    let mut lent = Lent::new(case.room);
+    let result = wrapper(&case.bytes, case.lists, lent.row());
+    let expected = expected.as_ref().map(Vec::len).map_err(|number| *number);
+    assert_eq!(result.map_err(|refusal| refusal.number()), expected, "{case:#?}");
+    lent.assert_holds(written, "the bytes by the wrapper", case);
+}
+
+type Raw = fn(&[u8], usize, &mut [u8]) -> ffi::Written;
+type Wrapper = fn(&[u8], usize, &mut [u8]) -> Result<usize, zwailmoor::Refusal>;
+
+/// A case for one of the two directions: the packed form or the row form of the same expressions.
+fn case(salt: u64, number: u64, form: fn(Vec<u8>) -> Vec<u8>, other: fn(&[u8]) -> usize) -> Case {
+    let mut random = Random::of_case(seed() ^ salt, number);
+    let usual = random.between(1, 32);
+    let row = expression_row(&mut random, usual);
+    let needed = other(&row);
+    let mut bytes = form(row);
+    match random.below(16) {
+        0..=3 => damage(&mut random, &mut bytes),
+        4 => {
+            let count = random.below(12);
+            bytes = random.bytes(count);
+        }
+        _ => {}
+    }
+    let lists = match random.below(8) {
+        0 => random.between(1, usual),
+        _ => list_count(&mut random, usual),
+    };
+    let room = room(&mut random, needed);
+    Case {
+        number,
+        bytes,
+        lists,
+        room,
+    }
+}
+
+fn edges(tally: &mut Tally, case: &Case, row: &[u8], written: usize) {
+    let tree = model::read_row(row, case.lists).expect("an accepted row");
+    tally.edge("48 nodes", row.len() == 48);
+    tally.edge("depth 12", tree.depth() == 12);
+    tally.edge("32 lists", case.lists == 32);
+    tally.edge("an exact row", case.room == written);
+}
+
+#[test]
+fn unpack_expression() {
+    let mut tally = Tally::default();
+    for number in 0..cases() {
+        let case = case(1, number, |row| packed_anyway(&row), |row| row.len());
+        let expected = model::unpack(&case.bytes, case.lists, case.room);
+        compare(&case, &expected, ffi::unpack_expression, zwailmoor::unpack_expression);
+        if let Ok(row) = &expected {
+            let mut back = [0; 41];
+            let length = zwailmoor::pack_expression(row, case.lists, &mut back);
+            assert_eq!(
+                length.map(|length| &back[..length]),
+                Ok(&case.bytes[..]),
+                "written back: {case:#?}"
+            );
+            edges(&mut tally, &case, row, row.len());
+        }
+        tally.count(&expected);
+    }
+    tally.close("unpack_expression", seed(), &[1, 2, 3, 4, 5, 6, 7]);
+}
+
+#[test]
+fn pack_expression() {
+    let mut tally = Tally::default();
+    for number in 0..cases() {
+        let case = case(2, number, |row| row, |row| packed_anyway(row).len());
+        let expected = model::pack(&case.bytes, case.lists, case.room);
+        compare(&case, &expected, ffi::pack_expression, zwailmoor::pack_expression);
+        if let Ok(packed) = &expected {
+            let mut back = [0; 48];
+            let length = zwailmoor::unpack_expression(packed, case.lists, &mut back);
+            assert_eq!(
+                length.map(|length| &back[..length]),
+                Ok(&case.bytes[..]),
+                "read back: {case:#?}"
+            );
+            edges(&mut tally, &case, &case.bytes, packed.len());
+        }
+        tally.count(&expected);
+    }
+    tally.close("pack_expression", seed(), &[1, 2, 3, 4, 5, 6, 7, 14]);
+}

@@ -1,0 +1,17 @@
+//! The engine and a second evaluator, made apart, on the same inputs: good ones, ones at a limit and damaged ones. Everything
+//! that is sent back is compared, and every element of every lent row.
+//!
+//! ZWAILMOOR_SEED and ZWAILMOOR_CASES (in decimal) change the seed and how many cases each call is given.
+
+mod deliveries;
+mod evaluator;
+mod expressions;
+mod inputs;
+mod random;
+mod rows;
+mod runs;
+mod tally;
+
+// The C calls themselves: the wrapper does not show what a refusal leaves in the other parts of the result.
+#[path = "../../src/ffi.rs"]
+mod ffi;

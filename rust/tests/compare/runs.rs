@@ -1,0 +1,248 @@
+//! Runs, whole and broken off, and the iterator over pages.
+
+use crate::evaluator::{self, Ran, TOP};
+use crate::ffi;
+use crate::inputs::{damage, expression_row, lent, lent_lists, long_list, longest, number, packed_anyway, some_lists};
+use crate::random::{cases, seed, Random};
+use crate::rows::Lent;
+use crate::tally::Tally;
+
+// The case's number is only printed.
+#[allow(dead_code)]
+#[derive(Debug, Clone)]
+struct Run {
+    number: u64,
+    numbers: Vec<u32>,
+    ends: Vec<u32>,
+    packed: Vec<u8>,
+    bookmark: u64,
+    codes: Vec<u8>,
+    arguments: Vec<u32>,
+    room: usize,
+}
+
+fn bookmark(random: &mut Random) -> u64 {
+    match random.below(16) {
+        0..=7 => 0,
+        8..=11 => random.below(24) as u64,
+        12 => TOP - random.below(14) as u64,
+        13 => random.next() % TOP,
+        14 => random.pick(&[TOP, TOP, TOP + 1, TOP + 2, 1 << 33, u64::MAX]),
+        _ => u64::from(number(random)) + 1,
+    }
+}
+
+/// A call's argument: among the lent numbers and beside them, or anywhere.
+fn argument(random: &mut Random, numbers: &[u32]) -> u32 {
+    if numbers.is_empty() || random.one_in(3) {
+        return number(random);
+    }
+    let lent = random.pick(numbers);
+    random.pick(&[lent, lent, lent.wrapping_add(1), lent.wrapping_sub(1)])
+}
+
+fn calls(random: &mut Random, numbers: &[u32]) -> (Vec<u8>, Vec<u32>) {
+    let count = if random.one_in(20) {
+        random.between(20, 60)
+    } else {
+        random.below(13)
+    };
+    let mostly_next = random.one_in(3);
+    let call = |random: &mut Random| match random.below(14) {
+        0 => random.pick(&[4, 5, 7, 128, 252, 255]),
+        _ if mostly_next => 0,
+        _ => random.below(4) as u8,
+    };
+    let mut codes = Vec::new();
+    let mut arguments = Vec::new();
+    for _ in 0..count {
+        codes.push(call(random));
+        arguments.push(argument(random, numbers));
+    }
+    (codes, arguments)
+}
+
+fn packed(random: &mut Random, lists: usize) -> Vec<u8> {
+    let over = if random.one_in(20) { lists + 1 } else { lists };
+    let mut bytes = packed_anyway(&expression_row(random, over));
+    if random.one_in(12) {
+        damage(random, &mut bytes);
+    }
+    bytes
+}
+
+fn case(number: u64) -> Run {
+    let mut random = Random::of_case(seed() ^ 6, number);
+    let (numbers, ends) = if random.one_in(4000) {
+        let lists = [some_lists(&mut random), vec![long_list(&mut random)]].concat();
+        lent(&lists)
+    } else if random.one_in(2) {
+        lent(&some_lists(&mut random))
+    } else {
+        lent_lists(&mut random)
+    };
+    let packed = packed(&mut random, ends.len());
+    let (mut codes, mut arguments) = calls(&mut random, &numbers);
+    let mut room = codes.len() + random.pick(&[0, 0, 1, 4]);
+    match random.below(40) {
+        0 => codes.push(0),
+        1 => arguments.push(0),
+        2 => room = random.below(codes.len() + 1),
+        _ => {}
+    }
+    Run {
+        number,
+        numbers,
+        ends,
+        packed,
+        bookmark: bookmark(&mut random),
+        codes,
+        arguments,
+        room,
+    }
+}
+
+impl Run {
+    fn expected(&self) -> Result<Ran, u32> {
+        evaluator::run(
+            &self.numbers,
+            &self.ends,
+            &self.packed,
+            self.bookmark,
+            &self.codes,
+            &self.arguments,
+            self.room,
+        )
+    }
+
+    /// Every part of what both interfaces send back, and the whole row of replies.
+    fn compare(&self, expected: &Result<Ran, u32>) {
+        let refused = Ran {
+            replies: vec![],
+            moves: 0,
+            places: [0; 48],
+            bookmark: 0,
+        };
+        let number = expected.as_ref().err().copied().unwrap_or(0);
+        let ran = expected.as_ref().unwrap_or(&refused);
+        self.compare_raw(number, ran);
+        self.compare_wrapper(number, ran);
+    }
+
+    fn compare_raw(&self, number: u32, ran: &Ran) {
+        let Run {
+            numbers,
+            ends,
+            packed,
+            bookmark,
+            codes,
+            arguments,
+            ..
+        } = self;
+        let mut lent = Lent::new(self.room);
+        let sent = ffi::run(numbers, ends, packed, *bookmark, codes, arguments, lent.row());
+        let parts = ffi::Ran {
+            number,
+            moves: ran.moves,
+            places: ran.places,
+            bookmark: ran.bookmark,
+        };
+        assert_eq!(sent, parts, "{self:#?}");
+        lent.assert_holds(&ran.replies, "the replies", self);
+    }
+
+    fn compare_wrapper(&self, number: u32, ran: &Ran) {
+        let Run {
+            numbers,
+            ends,
+            packed,
+            bookmark,
+            codes,
+            arguments,
+            ..
+        } = self;
+        let mut lent = Lent::new(self.room);
+        let result = zwailmoor::run(numbers, ends, packed, *bookmark, codes, arguments, lent.row());
+        let parts = zwailmoor::Ran {
+            moves: ran.moves,
+            places: ran.places,
+            bookmark: ran.bookmark,
+        };
+        let parts = if number == 0 { Ok(parts) } else { Err(number) };
+        assert_eq!(result.map_err(|refusal| refusal.number()), parts, "{self:#?}");
+        lent.assert_holds(&ran.replies, "the replies by the wrapper", self);
+    }
+
+    /// Broken off before call k and taken up from the bookmark: the same replies and the same last bookmark.
+    fn compare_broken_off(&self, whole: &Ran, k: usize) {
+        let part = |bookmark, calls: std::ops::Range<usize>| {
+            let part = Run {
+                bookmark,
+                codes: self.codes[calls.clone()].to_vec(),
+                arguments: self.arguments[calls.clone()].to_vec(),
+                room: calls.len(),
+                ..self.clone()
+            };
+            let expected = part.expected();
+            part.compare(&expected);
+            expected.expect("a part of an accepted run is accepted")
+        };
+        let first = part(self.bookmark, 0..k);
+        let rest = part(first.bookmark, k..self.codes.len());
+        assert_eq!(
+            [first.replies, rest.replies].concat(),
+            whole.replies,
+            "broken off before {k}: {self:#?}"
+        );
+        assert_eq!(rest.bookmark, whole.bookmark, "broken off before {k}: {self:#?}");
+    }
+
+    /// The iterator, in pages of some size, against the set.
+    fn compare_members(&self, page: usize) {
+        let members = zwailmoor::members(&self.numbers, &self.ends, &self.packed, self.bookmark, page);
+        // One more than there can be, so that an iterator that does not end is seen.
+        let most = self.numbers.len() + 1;
+        let drawn = members.map(|members| members.take(most).collect::<Vec<u32>>());
+        let drawn = drawn.map_err(|refusal| refusal.number());
+        let source = evaluator::source(&self.numbers, &self.ends, &self.packed, self.bookmark);
+        let above = |member: &u32| u64::from(*member) >= self.bookmark;
+        let expected = source.map(|source| source.set.into_iter().filter(above).collect::<Vec<u32>>());
+        assert_eq!(drawn, expected, "in pages of {page}: {self:#?}");
+    }
+}
+
+/// What a good many cases must have had, all accepted.
+fn edges(tally: &mut Tally, case: &Run, ran: &Ran) {
+    let tree = evaluator::expression::read_packed(&case.packed, case.ends.len()).expect("an accepted expression");
+    tally.edge("32 lists", case.ends.len() == 32);
+    tally.edge("a list of 65,535", longest(&case.ends) == 65_535);
+    tally.edge("bookmark at the top", case.bookmark == TOP);
+    tally.edge("48 nodes", tree.row().len() == 48);
+    tally.edge("depth 12", tree.depth() == 12);
+    tally.edge("4,294,967,295 drawn", ran.replies.contains(&(TOP - 1)));
+    for (name, reply) in [("no", TOP), ("yes", TOP + 1), ("finished", TOP + 2), ("unknown", TOP + 3)] {
+        tally.edge(name, ran.replies.contains(&reply));
+    }
+}
+
+#[test]
+fn run() {
+    let mut tally = Tally::default();
+    for number in 0..cases() {
+        let case = case(number);
+        let expected = case.expected();
+        case.compare(&expected);
+        let mut random = Random::of_case(seed() ^ 7, number);
+        if let Ok(whole) = &expected {
+            case.compare_broken_off(whole, random.below(case.codes.len() + 1));
+            edges(&mut tally, &case, whole);
+        }
+        let iterated = random.one_in(4) && case.numbers.len() < 2000;
+        if iterated {
+            case.compare_members(random.pick(&[0, 1, 2, 3, 7, 1000]));
+        }
+        tally.edge("also drawn by the iterator", iterated);
+        tally.count(&expected);
+    }
+    tally.close("run", seed(), &[1, 2, 3, 4, 5, 7, 10, 11, 12, 13]);
+}
