@@ -1,4 +1,4 @@
-//! A second evaluator, made from the paper alone: sets are `BTreeSet`, bits are a row of truth values, readers move one at a
+//! A second evaluator, made apart, from the paper: sets are `BTreeSet`, bits are a row of truth values, readers move one at a
 //! time. It is slow and plain, and shares nothing with the engine.
 //!
 //! Every function answers what the paper sends back: the elements written, or the refusal's number.
