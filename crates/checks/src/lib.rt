@@ -1,5 +1,5 @@
 // "To check D": the check of a node and the checks over its member nodes call each other. With every call the remaining nodes
-// fall.
+// fall. A check takes the readers and hands them back by value; inside it all nodes move the readers of that one copy.
 ghost use mathlib.Core.Path.{_≡_};
 ghost use mathlib.Core.List.{[]};
 ghost use Prim.Native.Nat.{_<_};

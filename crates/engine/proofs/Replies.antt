@@ -17,33 +17,34 @@ use Rattle.model.specs.Run.{State, drawn, told, step}
 use Rattle.model.proofs.Order.{split}
 use Rattle.reader.specs.Sought.{found}
 use Rattle.reader.proofs.Answers.{found-at, found-end}
-use Rattle.engine.specs.States.{reply-drawn, floor-drawn, Raises}
+use Rattle.engine.specs.States.{Raises}
 
--- an answer is finished, or a member
-pub none-drawn : (x : ℕ) → x ≡ top → Finished ≡ reply-drawn x
-unfolding reply-drawn
-none-drawn x h = rw (reply-drawn, le-ltb x top (omega arith))
+-- an answer is finished, or a member: the reply to it, and the floor after it
+module _ (x : ℕ) (rs : model.Readers) where
+  pub none-drawn : x ≡ top → Finished ≡ drawn (found x rs) .0
+  unfolding drawn
+  none-drawn h = rw (found-end x rs (omega arith))
 
-pub one-drawn : (x y : ℕ) → y ≡ x → x < top → Member y ≡ reply-drawn x
-unfolding reply-drawn
-one-drawn x y e h = rw (reply-drawn, lt-ltb x top h, e)
+  pub one-drawn : (y : ℕ) → y ≡ x → x < top → Member y ≡ drawn (found x rs) .0
+  unfolding drawn
+  one-drawn y e h = rw (found-at x rs h, e)
 
-pub floor-last : (x : ℕ) → x ≡ top → x ≡ floor-drawn x
-unfolding floor-drawn
-floor-last x h = rw (floor-drawn, le-ltb x top (omega arith)) h
+  pub floor-last : x ≡ top → x ≡ drawn (found x rs) .1 .floor
+  unfolding drawn
+  floor-last h = rw (found-end x rs (omega arith)) h
 
-pub floor-next : (x : ℕ) → x < top → x + 1 ≡ floor-drawn x
-unfolding floor-drawn
-floor-next x h = rw (floor-drawn, lt-ltb x top h) (add-one x)
+  pub floor-next : x < top → x + 1 ≡ drawn (found x rs) .1 .floor
+  unfolding drawn
+  floor-next h = rw (found-at x rs h) (add-one x)
 
-pub floor-low : (x : ℕ) → x ≤ top → floor-drawn x ≤ top
-unfolding floor-drawn
-floor-low x h = split (floor-drawn x ≤ top) x top (λ lt. rw (floor-drawn, lt-ltb x top lt) (omega (arith, lt))) (λ ge. rw (floor-drawn, le-ltb x top ge) (omega arith))
+  pub floor-low : drawn (found x rs) .1 .floor ≤ top
+  unfolding drawn
+  floor-low = split (drawn (found x rs) .1 .floor ≤ top) x top (λ lt. rw (found-at x rs lt) (omega (arith, lt))) (λ ge. rw (found-end x rs ge) (omega arith))
 
--- the two together
-pub draws : (x : ℕ) (rs : model.Readers) → _≡_ {A = Reply × State} (reply-drawn x, record { floor = floor-drawn x; readers = rs }) (drawn (found x rs))
-unfolding drawn reply-drawn floor-drawn
-draws x rs = split ((reply-drawn x, record { floor = floor-drawn x; readers = rs }) ≡ drawn (found x rs)) x top (λ lt. rw (found-at x rs lt, reply-drawn, floor-drawn, lt-ltb x top lt)) (λ ge. rw (found-end x rs ge, reply-drawn, floor-drawn, le-ltb x top ge))
+  -- the two together
+  pub draws : _≡_ {A = Reply × State} (drawn (found x rs) .0, record { floor = drawn (found x rs) .1 .floor; readers = rs }) (drawn (found x rs))
+  unfolding drawn
+  draws = split ((drawn (found x rs) .0, record { floor = drawn (found x rs) .1 .floor; readers = rs }) ≡ drawn (found x rs)) x top (λ lt. rw (found-at x rs lt)) (λ ge. rw (found-end x rs ge))
 
 module _ (ls : List (List ℕ)) (t : Tree) (s : State) where
   -- "Check with D below the floor moves nothing"

@@ -1,14 +1,11 @@
 -- What one call leaves to the next, as the code has it.
 use mathlib.Core.Path.{_≡_}
-use mathlib.Core.Bool.{true, false}
 use mathlib.Core.List.{List}
 use Prim.Native.Nat.{ℕ, suc, max}
-use lib.Dec.{ltb}
 use lib.ListN.{length}
 use Rattle.model.specs.declared.Reply.{Reply}
-use Rattle.model.specs.declared.Reply.the-variants.{Member, Finished}
 use Rattle.model.specs.Outcome.{Sent}
-use Rattle.model.specs.Lists.{top, lists-from}
+use Rattle.model.specs.Lists.{lists-from}
 use Rattle.model.specs.Expression.{Tree}
 use Rattle.model.specs.Machine.{calls}
 use Rattle.model.specs.Run.{State, run}
@@ -17,13 +14,6 @@ use Rattle.reader.specs.declared.Readers.{Readers}
 use Rattle.reader.specs.Rows.{Stands}
 use Rattle.reader.specs.Sought.{readers-of}
 use Rattle.engine.specs.declared.Stepped.{Stepped}
-
--- the reply to an answer, and the floor after it: `Run.drawn` of `found`
-unfoldable pub reply-drawn : ℕ → Reply
-reply-drawn x = elim (ltb x top) [ true ↦ Member x | false ↦ Finished ]
-
-unfoldable pub floor-drawn : ℕ → ℕ
-floor-drawn x = elim (ltb x top) [ true ↦ suc x | false ↦ top ]
 
 -- what the codes 0 to 2 raise a floor to
 abbrev pub Raises : (floor code d to : ℕ) → Type 0

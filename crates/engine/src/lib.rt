@@ -7,13 +7,14 @@ ghost use lib.ListN.{length};
 ghost use Rattle.model.specs.declared.Reply.the-variants.{Yes, No};
 ghost use Rattle.model.specs.Lists.{top};
 ghost use Rattle.model.specs.Machine.{check, call, encode as encoded};
+ghost use Rattle.model.specs.Steps as model;
 ghost use Rattle.model.specs.Steps.{seek as seek-tree};
 ghost use Rattle.model.specs.Run.{drawn, step as step-of};
 ghost use Rattle.model.specs.Calls.{ran, run-call};
 ghost use Rattle.model.specs.Demands.{Third-demand-met};
 ghost use Rattle.reader.specs.Rows.{Standing, Ready};
-ghost use Rattle.reader.specs.Sought.{readers-of, Tallied};
-ghost use Rattle.engine.specs.States.{reply-drawn, floor-drawn, Raises, state-of, Steps-to, Answers};
+ghost use Rattle.reader.specs.Sought.{readers-of, found, Tallied};
+ghost use Rattle.engine.specs.States.{Raises, state-of, Steps-to, Answers};
 use expression::Form;
 use model::Ran;
 use model::Reply;
@@ -40,7 +41,7 @@ fn narrow(x: u64) -> u32
 // The reply to an answer of the whole expression.
 fn drawn_reply(x: u64) -> Reply
     requires { ⌜ x ≤ top ⌝ }
-    ensures { λ r. ⌜ r ≡ reply-drawn x ⌝ }
+    ensures { λ r. ⌜ ((rs : model.Readers) → r ≡ drawn (found x rs) .0) ⌝ }
 {
     if x == reader::FINISHED {
         return Reply::Finished;
@@ -51,7 +52,7 @@ fn drawn_reply(x: u64) -> Reply
 // The floor after it: "that member plus 1"; finished, "4,294,967,296".
 fn drawn_floor(x: u64) -> u64
     requires { ⌜ x ≤ top ⌝ }
-    ensures { λ r. ⌜ r ≡ floor-drawn x ⌝ }
+    ensures { λ r. ⌜ ((rs : model.Readers) → r ≡ drawn (found x rs) .1 .floor) ⌝ }
 {
     if x == reader::FINISHED {
         return x;

@@ -14,8 +14,7 @@ use Rattle.model.specs.Steps.{Readers, at, passed, answer, read}
 use Rattle.model.specs.Demands.{sum}
 use Rattle.model.proofs.Seek.{passed-on, passed-off}
 use Rattle.model.proofs.Places.{passed-le, sum-set}
-use Rattle.reader.specs.declared.Readers.{Readers as Kept}
-use Rattle.reader.specs.Sought.{found, Tallied}
+use Rattle.reader.specs.Sought.{readers, found, Tallied}
 use Rattle.reader.proofs.Answers.{found-at, found-end}
 
 -- ---- one turn, at a place of the list
@@ -66,12 +65,8 @@ none-there zero i = omega arith
 none-there (suc n) zero = omega arith
 none-there (suc n) (suc i) = none-there n i
 
-pub none-moved : Tallied (record { places = replicate 48 0; moves = 0 })
+pub none-moved : Tallied (readers (replicate 48 0) 0)
 none-moved = record { many = refl; small = λ i. omega (arith, none-there 48 i); within = omega arith }
-
--- the same record as the code has it
-abbrev kept : Readers → Kept
-kept rs = record { places = rs .places; moves = rs .moves }
 
 -- what is known of the place where the reader of the node i over a list stops
 pub record Stopped (list : List ℕ) (i to : ℕ) (rs : Readers) (place : ℕ) : Type 0 where
@@ -79,7 +74,7 @@ pub record Stopped (list : List ℕ) (i to : ℕ) (rs : Readers) (place : ℕ) :
   pub above : place < length list → to ≤ getD list place 0
   pub number : (x : ℕ) → place < length list → x ≡ getD list place 0 → x < top → found x (after rs i place) ≡ read list i to rs
   pub finished : length list ≤ place → found top (after rs i place) ≡ read list i to rs
-  pub tallied : i < 48 → length list ≤ 65535 → Tallied (kept rs) → Tallied (kept (after rs i place))
+  pub tallied : i < 48 → length list ≤ 65535 → Tallied (readers (rs .places) (rs .moves)) → Tallied (readers (after rs i place .places) (after rs i place .moves))
 
 pub stopped : (list : List ℕ) (i to : ℕ) (rs : Readers) (place : ℕ) → place ≡ getD (rs .places) i 0 + passed (drop (getD (rs .places) i 0) list) to → Stopped list i to rs place
 unfolding read answer
@@ -109,7 +104,7 @@ stopped list i to rs place is = record { small = small; above = above; number = 
     finished : length list ≤ place → found top (after rs i place) ≡ read list i to rs
     finished h = found-end top (after rs i place) (omega arith) ∙ sym (reads ∙ ap (λ (l : List ℕ). answer l (after rs i place)) (drop-of-length-le list h))
 
-    tallied : i < 48 → length list ≤ 65535 → Tallied (kept rs) → Tallied (kept (after rs i place))
+    tallied : i < 48 → length list ≤ 65535 → Tallied (readers (rs .places) (rs .moves)) → Tallied (readers (after rs i place .places) (after rs i place .moves))
     tallied h k t = record {
       many = length-set (rs .places) i place ∙ t .many;
       small = λ j. below-set (rs .places) i place 65535 j (small (t .small i) k) (t .small j);

@@ -3,6 +3,7 @@
 use mathlib.Core.Path.{ap, _∙_}
 use borrow.Author.Needs.{needs}
 use Rattle.model.specs.Run.{drawn}
+use Rattle.reader.specs.Sought.{readers-of}
 use Rattle.engine.proofs.Replies.{floor-low, draws}
 use Rattle.engine.proofs.draw.Statement.{statement}
 use Rattle.engine.proofs.draw.Tie as tie
@@ -10,9 +11,10 @@ use Rattle.engine.proofs.draw.Tie as tie
 returns : tie.Need-returns
 returns c =
     let s = c .before .before .before .seek in
-    rw (c .drawn-floor .ensures, c .before .before .drawn-reply .ensures) (
-      (floor-low _ (s .ensures .0 .low), s .ensures .0 .tallied),
-      λ t h. draws (s .result .answer) _ ∙ ap drawn (s .ensures .1 t h),
+    let rs = readers-of (s .result .readers) in
+    rw (c .drawn-floor .ensures rs, c .before .before .drawn-reply .ensures rs) (
+      (floor-low (s .result .answer) rs, s .ensures .0 .tallied),
+      λ t h. draws (s .result .answer) rs ∙ ap drawn (s .ensures .1 t h),
     )
 
 pub draw-spec : {M : Type 1} → statement M
