@@ -11,18 +11,18 @@ use Rattle.model.specs.Steps.{Check, says, on-yes, on-no, check-node}
 use Rattle.reader.specs.declared.Readers.{Readers}
 use Rattle.reader.specs.Rows.{Stands, Stand-each}
 use Rattle.reader.specs.Sought.{readers, readers-of}
-use Rattle.checks.specs.declared.Checked.{Checked}
+use Rattle.checks.specs.declared.CheckResult.{CheckResult}
 
 -- yes or no, and the readers
-abbrev pub checked-of : Checked → model.Checked
+abbrev pub checked-of : CheckResult → model.Checked
 checked-of c = says (c .yes) (readers-of (c .readers))
 
 -- a reply, with the places and moves that a check in lent ones leaves: what a check hands back
-abbrev pub checked : Bool → List ℕ → ℕ → Checked
+abbrev pub checked : Bool → List ℕ → ℕ → CheckResult
 checked reply places moves = record { readers = readers places moves; yes = reply }
 
 -- the check of the node i for d: `Steps.check-node` of the tree that stands there
-abbrev pub Tells : (numbers ends nodes : List ℕ) → ℕ → ℕ → Readers → Checked → Type 0
+abbrev pub Tells : (numbers ends nodes : List ℕ) → ℕ → ℕ → Readers → CheckResult → Type 0
 Tells numbers ends nodes i d start r = (t : Tree) → Stands (length ends) nodes t i → checked-of r ≡ check-node (lists-from numbers 0 ends) t i d (readers-of start)
 
 -- the reply holds where it is the one sought, else the next is checked too: on no for a union, on yes for an intersection
@@ -37,6 +37,6 @@ check-until b ls [] i d rs = says (not b) rs
 check-until b ls (t ∷ ts) i d rs = unless b (check-node ls t i d rs) (check-until b ls ts (i + size t) d)
 
 -- the checks of n member nodes from the node i on
-abbrev pub Tells-in : Bool → (numbers ends nodes : List ℕ) → ℕ → ℕ → ℕ → Readers → Checked → Type 0
+abbrev pub Tells-in : Bool → (numbers ends nodes : List ℕ) → ℕ → ℕ → ℕ → Readers → CheckResult → Type 0
 Tells-in b numbers ends nodes i n d start r = (ts : List Tree) → length ts ≡ n → Stand-each (length ends) nodes ts i
     → checked-of r ≡ check-until b (lists-from numbers 0 ends) ts i d (readers-of start)

@@ -17,7 +17,7 @@ use model::Node;
 use reader::Readers;
 
 // What a check hands back: the readers after it, and yes or no.
-pub struct Checked {
+pub struct CheckResult {
     pub readers: Readers,
     pub yes: bool,
 }
@@ -51,7 +51,7 @@ pub fn check(
     node: usize,
     start: Readers,
     d: u32,
-) -> Checked
+) -> CheckResult
     requires { ⌜ Ready (now numbers) (now ends) (now nodes) (now behind) ⌝ }
     requires { ⌜ Standing (length (now ends)) (now nodes) node ⌝ }
     requires { ⌜ Tallied start ⌝ }
@@ -71,7 +71,7 @@ pub fn check(
         d,
     );
     let readers = Readers { places, moves };
-    Checked { readers, yes }
+    CheckResult { readers, yes }
 }
 
 // The same in lent places and moves, by the node's kind.

@@ -11,7 +11,7 @@ ghost use Rattle.decode.specs.Heads.{header, gap};
 ghost use Rattle.decode.specs.Answers.{head-says, read-says, only, total};
 ghost use Rattle.decode.specs.Stores.{Gaps-stored, List-stored, Lists-read, Lists-stored};
 use fields::Field;
-use model::Delivered;
+use model::DecodeResult;
 
 // What stands before the gaps of a list, with the position behind it, or the number of a refusal.
 enum Head {
@@ -320,18 +320,18 @@ fn number_of(read: Read) -> u32
 }
 
 // Reads a delivery into the lent rows of numbers and of ends.
-pub fn decode_delivery(bytes: &[u8], numbers: &mut [u32], ends: &mut [u32]) -> Delivered
+pub fn decode_delivery(bytes: &[u8], numbers: &mut [u32], ends: &mut [u32]) -> DecodeResult
     ensures { λ r. ⌜ delivered r (now (numbers .exit)) (now (ends .exit)) ≡ decode-delivery (now (bytes .entry)) (now (numbers .entry)) (now (ends .entry)) ⌝ }
 {
     let Field::Value { value: n, next } = fields::take_field(bytes, 0, 6) else {
-        return Delivered::refused(1);
+        return DecodeResult::refused(1);
     };
     let many = wide(n);
     if !lists::count_holds(many) {
-        return Delivered::refused(7);
+        return DecodeResult::refused(7);
     }
     if ends.len() < many {
-        return Delivered::refused(6);
+        return DecodeResult::refused(6);
     }
     let walk = walk_lists(bytes, next, n, numbers.len());
     let Read::Value {
@@ -339,13 +339,13 @@ pub fn decode_delivery(bytes: &[u8], numbers: &mut [u32], ends: &mut [u32]) -> D
         next: end,
     } = walk
     else {
-        return Delivered::refused(number_of(walk));
+        return DecodeResult::refused(number_of(walk));
     };
     if !fields::only_fill(bytes, end) {
-        return Delivered::refused(5);
+        return DecodeResult::refused(5);
     }
     store_lists(bytes, next, n, numbers, ends);
-    Delivered {
+    DecodeResult {
         number: 0,
         lists: many,
         numbers: wide(count),

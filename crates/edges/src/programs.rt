@@ -2,7 +2,7 @@
 use crate::long;
 use crate::marks;
 use crate::text;
-use model::Counted;
+use model::MembersResult;
 
 // An input of at most 80 bytes with at most 65,536 zero bytes behind it, and a row of at most 4,096 places for its members.
 // Whether there are no more zero bytes.
@@ -37,7 +37,7 @@ fn input_text(input: &[u8]) {
     text::bytes(input);
 }
 
-fn outcome(r: Counted, row: &[u32; 4096]) {
+fn outcome(r: MembersResult, row: &[u32; 4096]) {
     text::put(b": ");
     if r.number == 0 {
         text::counted(r.count, b"member");

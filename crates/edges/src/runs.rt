@@ -2,7 +2,7 @@
 use crate::given;
 use crate::marks;
 use crate::text;
-use model::Ran;
+use model::RunResult;
 
 // A run of lists, an expression in row form and calls.
 pub fn run_from(
@@ -111,7 +111,7 @@ fn node_count(packed: &[u8], lists: usize) -> usize {
     forms::unpack_expression(packed, lists, &mut row).count
 }
 
-fn other_parts_zero(ran: Ran) -> bool {
+fn other_parts_zero(ran: RunResult) -> bool {
     let places = ran.places;
     if ran.moves != 0 {
         return false;
@@ -179,7 +179,7 @@ fn reply(r: u64) {
 }
 
 // The bookmark, the moves, and the places of the nodes that there are.
-fn handed_back(ran: Ran, nodes: usize) {
+fn handed_back(ran: RunResult, nodes: usize) {
     let places = ran.places;
     text::with(b"; bookmark ", ran.bookmark);
     text::with(b", moves ", text::wide_32(ran.moves));

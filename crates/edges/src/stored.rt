@@ -1,7 +1,7 @@
 // The stored forms and the lent lists, a call for each case: what is handed in and what comes back.
 use crate::marks;
 use crate::text;
-use model::Delivered;
+use model::DecodeResult;
 
 // A packed expression to its row form, in a row of so many nodes, at most 64.
 pub fn unpack(cases: &mut u32, name: &[u8], bytes: &[u8], lists: usize, room: usize) {
@@ -98,7 +98,7 @@ fn into_both(number_room: usize, end_room: usize) {
     text::put(b": ");
 }
 
-fn delivered(d: Delivered, numbers: &[u32; 80], ends: &[u32; 80]) {
+fn delivered(d: DecodeResult, numbers: &[u32; 80], ends: &[u32; 80]) {
     if d.number == 0 {
         text::counted(d.lists, b"list");
         text::put(b", ");

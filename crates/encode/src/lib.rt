@@ -11,7 +11,7 @@ ghost use Rattle.fields.specs.Positions.{put-bits};
 ghost use Rattle.encode.specs.Fits.{Gaps-fit, List-fits, Lists-fit};
 ghost use Rattle.encode.specs.Measures.{list-size, measured};
 use lists::Rise;
-use model::Written;
+use model::WriteResult;
 
 // What is known before the first bit is written: 11 or 0, the bits of all lists (their number's six apart), and the width of
 // each list's gaps.
@@ -149,27 +149,27 @@ fn put_lists(s: &mut [u8], numbers: &[u32], ends: &[u32], widths: [u8; 32]) -> u
 }
 
 // Writes a delivery of the lists into the lent bytes.
-pub fn encode_delivery(numbers: &[u32], ends: &[u32], bytes: &mut [u8]) -> Written
+pub fn encode_delivery(numbers: &[u32], ends: &[u32], bytes: &mut [u8]) -> WriteResult
     ensures { λ r. ⌜ written r (now (bytes .exit)) ≡ encode-delivery (now (numbers .entry)) (now (ends .entry)) (now (bytes .entry)) ⌝ }
 {
     if !lists::count_holds(ends.len()) {
-        return Written::refused(7);
+        return WriteResult::refused(7);
     }
     if !lists::ends_hold(numbers.len(), ends) {
-        return Written::refused(10);
+        return WriteResult::refused(10);
     }
     let m = survey(numbers, ends);
     if m.number != 0 {
-        return Written::refused(m.number);
+        return WriteResult::refused(m.number);
     }
     // six bits of their number ahead of the lists, and up to a whole byte
     let count = (m.bits + 13) >> 3;
     if bytes.len() < count {
-        return Written::refused(6);
+        return WriteResult::refused(6);
     }
     let widths = m.widths;
     fields::put_field(bytes, 0, 6, narrow(ends.len()));
     let next = put_lists(bytes, numbers, ends, widths);
     fields::put_field(bytes, next, 8 * count - next, 0);
-    Written { number: 0, count }
+    WriteResult { number: 0, count }
 }

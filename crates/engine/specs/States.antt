@@ -13,7 +13,7 @@ use Rattle.model.specs.Demands.{ran-all}
 use Rattle.reader.specs.declared.Readers.{Readers}
 use Rattle.reader.specs.Rows.{Stands}
 use Rattle.reader.specs.Sought.{readers-of}
-use Rattle.engine.specs.declared.Stepped.{Stepped}
+use Rattle.engine.specs.declared.StepResult.{StepResult}
 
 -- what the codes 0 to 2 raise a floor to
 abbrev pub Raises : (floor code d to : ℕ) → Type 0
@@ -24,11 +24,11 @@ abbrev pub state-of : ℕ → Readers → State
 state-of floor r = record { floor = floor; readers = readers-of r }
 
 -- a reply, and the state after it
-abbrev pub stepped-of : Stepped → Reply × State
+abbrev pub stepped-of : StepResult → Reply × State
 stepped-of s = (s .reply, state-of (s .floor) (s .readers))
 
 -- what a call leaves, whatever tree stands at the first node
-abbrev pub Steps-to : (numbers ends nodes : List ℕ) → (List (List ℕ) → Tree → Reply × State) → Stepped → Type 0
+abbrev pub Steps-to : (numbers ends nodes : List ℕ) → (List (List ℕ) → Tree → Reply × State) → StepResult → Type 0
 Steps-to numbers ends nodes of r = (t : Tree) → Stands (length ends) nodes t 0 → stepped-of r ≡ of (lists-from numbers 0 ends) t
 
 -- what a run that has passed its tests sends back: `Run.run`, over the reply row that it was lent

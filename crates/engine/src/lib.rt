@@ -16,7 +16,7 @@ ghost use Rattle.reader.specs.Rows.{Standing, Ready};
 ghost use Rattle.reader.specs.Sought.{readers-of, found, Tallied};
 ghost use Rattle.engine.specs.States.{Raises, state-of, Steps-to, Answers};
 use expression::Form;
-use model::Ran;
+use model::RunResult;
 use model::Reply;
 use reader::Readers;
 
@@ -24,7 +24,7 @@ use reader::Readers;
 const TOP: u64 = 4294967296;
 
 // What one call leaves to the next, and its reply.
-pub struct Stepped {
+pub struct StepResult {
     pub reply: Reply,
     pub floor: u64,
     pub readers: Readers,
@@ -85,7 +85,7 @@ pub fn draw(
     behind: &[usize; 48],
     start: Readers,
     floor: u64,
-) -> Stepped
+) -> StepResult
     requires { ⌜ Ready (now numbers) (now ends) (now nodes) (now behind) ⌝ }
     requires { ⌜ Standing (length (now ends)) (now nodes) 0 ⌝ }
     requires { ⌜ (floor ≤ top) × Tallied start ⌝ }
@@ -96,7 +96,7 @@ pub fn draw(
     let x = a.answer;
     let reply = drawn_reply(x);
     let readers = a.readers;
-    Stepped {
+    StepResult {
         reply,
         floor: drawn_floor(x),
         readers,
@@ -112,7 +112,7 @@ fn ask(
     start: Readers,
     floor: u64,
     d: u32,
-) -> Stepped
+) -> StepResult
     requires { ⌜ Ready (now numbers) (now ends) (now nodes) (now behind) ⌝ }
     requires { ⌜ Standing (length (now ends)) (now nodes) 0 ⌝ }
     requires { ⌜ (floor ≤ top) × Tallied start ⌝ }
@@ -120,7 +120,7 @@ fn ask(
     ensures { λ r. ⌜ Steps-to (now (numbers .entry)) (now (ends .entry)) (now (nodes .entry)) (λ ls t. step-of ls t (state-of floor start) (check d)) r ⌝ }
 {
     if reader::wide(d) < floor {
-        return Stepped {
+        return StepResult {
             reply: Reply::No,
             floor,
             readers: start,
@@ -129,7 +129,7 @@ fn ask(
     let a = checks::check(numbers, ends, nodes, behind, 0, start, d);
     let reply = told_reply(a.yes);
     let readers = a.readers;
-    Stepped {
+    StepResult {
         reply,
         floor: reader::wide(d),
         readers,
@@ -146,7 +146,7 @@ fn tell(
     floor: u64,
     code: u8,
     d: u32,
-) -> Stepped
+) -> StepResult
     requires { ⌜ Ready (now numbers) (now ends) (now nodes) (now behind) ⌝ }
     requires { ⌜ Standing (length (now ends)) (now nodes) 0 ⌝ }
     requires { ⌜ (floor ≤ top) × Tallied start ⌝ }
@@ -157,7 +157,7 @@ fn tell(
     if code == 3 {
         return ask(numbers, ends, nodes, behind, start, floor, d);
     }
-    Stepped {
+    StepResult {
         reply: Reply::Unknown,
         floor,
         readers: start,
@@ -200,7 +200,7 @@ fn answer(
     codes: &[u8],
     arguments: &[u32],
     replies: &mut [u64],
-) -> Ran
+) -> RunResult
     requires { ⌜ Ready (now numbers) (now ends) (now nodes) (now behind) ⌝ }
     requires { ⌜ Standing (length (now ends)) (now nodes) 0 ⌝ }
     requires { ⌜ bookmark ≤ top ⌝ }
@@ -236,7 +236,7 @@ fn answer(
         i += 1;
     }
     let places = readers.places;
-    Ran {
+    RunResult {
         number: 0,
         moves: readers.moves,
         places,
@@ -256,26 +256,26 @@ pub fn run(
     codes: &[u8],
     arguments: &[u32],
     replies: &mut [u64],
-) -> Ran
+) -> RunResult
     ensures call { λ r. ⌜ ran r (now (replies .exit)) ≡ run-call (now (numbers .entry)) (now (ends .entry)) (now (packed .entry)) bookmark (now (codes .entry)) (now (arguments .entry)) (now (replies .entry)) ⌝ }
     ensures demand { λ r. ⌜ Third-demand-met (now (numbers .entry)) (now (ends .entry)) (now (packed .entry)) bookmark (now (codes .entry)) (now (arguments .entry)) (now (replies .entry)) (ran r (now (replies .exit))) ⌝ }
 {
     let number = lists::test_lists(numbers, ends);
     if number != 0 {
-        return Ran::refused(number);
+        return RunResult::refused(number);
     }
     let read = expression::read_expression(Form::Packed, packed, ends.len());
     if read.number != 0 {
-        return Ran::refused(read.number);
+        return RunResult::refused(read.number);
     }
     if TOP < bookmark {
-        return Ran::refused(12);
+        return RunResult::refused(12);
     }
     if codes.len() != arguments.len() {
-        return Ran::refused(13);
+        return RunResult::refused(13);
     }
     if replies.len() < codes.len() {
-        return Ran::refused(13);
+        return RunResult::refused(13);
     }
     let nodes = read.nodes;
     let behind = reader::node_ends(&nodes);

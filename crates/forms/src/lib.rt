@@ -8,7 +8,7 @@ ghost use Rattle.fields.specs.Rows.{lay};
 ghost use Rattle.fields.specs.Positions.{put-bits};
 ghost use Rattle.forms.specs.Packing.{bits-of, row-bits};
 use expression::Form;
-use model::Written;
+use model::WriteResult;
 
 // How a byte of the row form is packed: so many bits, and the number that they write.
 struct Bits {
@@ -79,46 +79,46 @@ fn put_nodes(s: &mut [u8], row: &[u8])
 }
 
 // A packed expression into its row form, in the lent row; as many elements as there are nodes.
-pub fn unpack_expression(bytes: &[u8], lists: usize, row: &mut [u8]) -> Written
+pub fn unpack_expression(bytes: &[u8], lists: usize, row: &mut [u8]) -> WriteResult
     ensures { λ r. ⌜ written r (now (row .exit)) ≡ unpack-expression (now (bytes .entry)) lists (now (row .entry)) ⌝ }
 {
     if !lists::count_holds(lists) {
-        return Written::refused(7);
+        return WriteResult::refused(7);
     }
     let read = expression::read_expression(Form::Packed, bytes, lists);
     if read.number != 0 {
-        return Written::refused(read.number);
+        return WriteResult::refused(read.number);
     }
     let nodes = read.nodes;
     let count = read.count;
     if row.len() < count {
-        return Written::refused(6);
+        return WriteResult::refused(6);
     }
     copy_out(row, &nodes[..count]);
-    Written { number: 0, count }
+    WriteResult { number: 0, count }
 }
 
 // The row form of an expression into its packed form, in the lent bytes; the last byte is filled with zero bits.
-pub fn pack_expression(row: &[u8], lists: usize, bytes: &mut [u8]) -> Written
+pub fn pack_expression(row: &[u8], lists: usize, bytes: &mut [u8]) -> WriteResult
     ensures { λ r. ⌜ written r (now (bytes .exit)) ≡ pack-expression (now (row .entry)) lists (now (bytes .entry)) ⌝ }
 {
     if !lists::count_holds(lists) {
-        return Written::refused(7);
+        return WriteResult::refused(7);
     }
     let read = expression::read_expression(Form::Row, row, lists);
     if read.number != 0 {
-        return Written::refused(read.number);
+        return WriteResult::refused(read.number);
     }
     let nodes = read.nodes;
     let count = read.count;
     let at = packed_bits(&nodes[..count]);
     let size = (at + 7) / 8;
     if bytes.len() < size {
-        return Written::refused(6);
+        return WriteResult::refused(6);
     }
     put_nodes(bytes, &nodes[..count]);
     fields::put_field(bytes, at, 8 * size - at, 0);
-    Written {
+    WriteResult {
         number: 0,
         count: size,
     }

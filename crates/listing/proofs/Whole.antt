@@ -9,7 +9,7 @@ use native.Mathlib.Omega.{arith}
 use borrow.Author.Tests.{le-leb, lt-leb}
 use lib.ListN.{length, getD, take, drop, replicate, length-take, length-drop}
 use lib.Seq.{take-all}
-use Rattle.model.specs.declared.Delivered.{Delivered}
+use Rattle.model.specs.declared.DecodeResult.{DecodeResult}
 use Rattle.model.specs.declared.Reply.the-variants.{Member, Finished}
 use Rattle.model.specs.Outcome.{Outcome, refused, accepted, _>>=_, _>>_, number-of, Success, Sent, over, sent}
 use Rattle.model.specs.Lists.{Numbers, lists-from, lists-of}
@@ -162,12 +162,12 @@ module _ (input lent : List ℕ) where
 -- ---- the delivery, read into 4,096 numbers and 32 ends
 
 -- the lists stand in the rows
-pub record Laid-lists (r : Delivered) (row stops : List ℕ) (ls : List (List ℕ)) : Type 0 where
+pub record Laid-lists (r : DecodeResult) (row stops : List ℕ) (ls : List (List ℕ)) : Type 0 where
   pub inside : r .lists ≤ length stops
   pub lists-are : lists-from row 0 (take (r .lists) stops) ≡ ls
   pub delivered-lists : Delivered-lists row (take (r .lists) stops)
 
-module _ (bytes numbers ends : List ℕ) (long : length numbers ≡ 4096) (many : length ends ≡ 32) (r : Delivered) (row stops : List ℕ) (e : delivered r row stops ≡ decode-delivery bytes numbers ends) where
+module _ (bytes numbers ends : List ℕ) (long : length numbers ≡ 4096) (many : length ends ≡ 32) (r : DecodeResult) (row stops : List ℕ) (e : delivered r row stops ≡ decode-delivery bytes numbers ends) where
   -- the number that was handed back
   pub delivered-number : r .number ≡ number-of (read-delivery 4096 32 bytes)
   unfolding decode-delivery sent number-of

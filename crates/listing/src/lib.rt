@@ -12,7 +12,7 @@ ghost use Rattle.engine.specs.States.{state-of};
 ghost use Rattle.listing.specs.Pages.{Pages-to};
 ghost use Rattle.listing.specs.Over.{Delivered-lists, list-over};
 use expression::Form;
-use model::Counted;
+use model::MembersResult;
 use model::Reply;
 use reader::Readers;
 
@@ -85,13 +85,13 @@ fn copy_out(lent: &mut [u32], from: &[u32])
 
 // Behind the delivery: the expression, and then its members over the delivered lists. They are drawn into a row of their own, one
 // longer than there can be members, so that the last reply is finished and the lent row is untouched until all fit.
-fn list_delivered(numbers: &[u32], ends: &[u32], packed: &[u8], members: &mut [u32]) -> Counted
+fn list_delivered(numbers: &[u32], ends: &[u32], packed: &[u8], members: &mut [u32]) -> MembersResult
     requires { ⌜ Delivered-lists (now numbers) (now ends) ⌝ }
     ensures { λ r. ⌜ counted r (now (members .exit)) ≡ list-over (lists-from (now (numbers .entry)) 0 (now (ends .entry))) (now (packed .entry)) (now (members .entry)) ⌝ }
 {
     let read = expression::read_expression(Form::Packed, packed, ends.len());
     if read.number != 0 {
-        return Counted::refused(read.number);
+        return MembersResult::refused(read.number);
     }
     let nodes = read.nodes;
     let behind = reader::node_ends(&nodes);
@@ -103,11 +103,11 @@ fn list_delivered(numbers: &[u32], ends: &[u32], packed: &[u8], members: &mut [u
     let page = draw_page(numbers, ends, &nodes, &behind, start, 0, &mut drawn);
     let count = page.count;
     if members.len() < count {
-        return Counted::refused(6);
+        return MembersResult::refused(6);
     }
     copy_out(members, &drawn[..count]);
     let readers = page.readers;
-    Counted {
+    MembersResult {
         number: 0,
         count,
         moves: readers.moves,
@@ -117,24 +117,24 @@ fn list_delivered(numbers: &[u32], ends: &[u32], packed: &[u8], members: &mut [u
 // The work of the program `members`, from its whole input to the members in the lent row, their count and the moves, or a
 // refusal: "the whole input's size is tested first, a missing length byte or a short expression (1) next, then the delivery,
 // then the expression".
-pub fn list_members(input: &[u8], members: &mut [u32]) -> Counted
+pub fn list_members(input: &[u8], members: &mut [u32]) -> MembersResult
     ensures { λ r. ⌜ counted r (now (members .exit)) ≡ list-members (now (input .entry)) (now (members .entry)) ⌝ }
 {
     if LONGEST < input.len() {
-        return Counted::refused(6);
+        return MembersResult::refused(6);
     }
     if input.len() == 0 {
-        return Counted::refused(1);
+        return MembersResult::refused(1);
     }
     let end = expression::wide(input[0]) + 1;
     if input.len() < end {
-        return Counted::refused(1);
+        return MembersResult::refused(1);
     }
     let mut numbers = [0u32; 4096];
     let mut ends = [0u32; 32];
     let got = decode::decode_delivery(&input[end..], &mut numbers, &mut ends);
     if got.number != 0 {
-        return Counted::refused(got.number);
+        return MembersResult::refused(got.number);
     }
     let lists = got.lists;
     list_delivered(&numbers, &ends[..lists], &input[1..end], members)

@@ -4,10 +4,10 @@ use mathlib.Core.List.{List, [], _∷_, _++_, map}
 use Prim.Native.Nat.{ℕ, _+_}
 use lib.Dec.{leb}
 use lib.ListN.{length, replicate}
-use Rattle.model.specs.declared.Written.{Written}
-use Rattle.model.specs.declared.Delivered.{Delivered}
-use Rattle.model.specs.declared.Ran.{Ran}
-use Rattle.model.specs.declared.Counted.{Counted}
+use Rattle.model.specs.declared.WriteResult.{WriteResult}
+use Rattle.model.specs.declared.DecodeResult.{DecodeResult}
+use Rattle.model.specs.declared.RunResult.{RunResult}
+use Rattle.model.specs.declared.MembersResult.{MembersResult}
 use Rattle.model.specs.Outcome.{accepted, _>>=_, _>>_, require, Sent, sent}
 use Rattle.model.specs.Lists.{count-holds, lists-of}
 use Rattle.model.specs.Expression.{size}
@@ -18,33 +18,33 @@ use Rattle.model.specs.Forms.{row, packed, read-row, read-packed}
 use Rattle.model.specs.Delivery.{delivery, read-delivery}
 
 -- what a call sends back, from the struct that it hands back and its lent rows as it leaves them
-abbrev pub written : Written → List ℕ → Sent
+abbrev pub written : WriteResult → List ℕ → Sent
 written r row = record { number = r .number; parts = r .count ∷ []; rows = row ∷ [] }
 
-abbrev pub delivered : Delivered → List ℕ → List ℕ → Sent
+abbrev pub delivered : DecodeResult → List ℕ → List ℕ → Sent
 delivered r numbers ends = record { number = r .number; parts = r .lists ∷ r .numbers ∷ []; rows = numbers ∷ ends ∷ [] }
 
 -- the other parts of a run's result: "the moves, all 48 places and the bookmark"
 abbrev pub run-parts : ℕ → List ℕ → ℕ → List ℕ
 run-parts moves places bookmark = moves ∷ (places ++ (bookmark ∷ []))
 
-abbrev pub ran : Ran → List ℕ → Sent
+abbrev pub ran : RunResult → List ℕ → Sent
 ran r row = record { number = r .number; parts = run-parts (r .moves) (r .places) (r .bookmark); rows = row ∷ [] }
 
-abbrev pub counted : Counted → List ℕ → Sent
+abbrev pub counted : MembersResult → List ℕ → Sent
 counted r row = record { number = r .number; parts = r .count ∷ r .moves ∷ []; rows = row ∷ [] }
 
 -- "A refusal hands back its number, every other part of the result 0": as such a struct
-abbrev pub written-refused : ℕ → Written
+abbrev pub written-refused : ℕ → WriteResult
 written-refused n = record { number = n; count = 0 }
 
-abbrev pub delivered-refused : ℕ → Delivered
+abbrev pub delivered-refused : ℕ → DecodeResult
 delivered-refused n = record { number = n; lists = 0; numbers = 0 }
 
-abbrev pub ran-refused : ℕ → Ran
+abbrev pub ran-refused : ℕ → RunResult
 ran-refused n = record { number = n; moves = 0; places = replicate 48 0; bookmark = 0 }
 
-abbrev pub counted-refused : ℕ → Counted
+abbrev pub counted-refused : ℕ → MembersResult
 counted-refused n = record { number = n; count = 0; moves = 0 }
 
 -- one end for each list, from lists that start at `start`

@@ -22,34 +22,34 @@ pub enum Reply {
 
 // What a call that writes into one lent row hands back: the number of a refusal or 0, and how many elements it wrote.
 #[repr(C)]
-pub struct Written {
+pub struct WriteResult {
     pub number: u32,
     pub count: usize,
 }
 
-impl Written {
+impl WriteResult {
     // What is handed back with a refusal: its number, and every other part 0.
     pub fn refused(number: u32) -> Self
         ensures { λ r. ⌜ r ≡ written-refused number ⌝ }
     {
-        Written { number, count: 0 }
+        WriteResult { number, count: 0 }
     }
 }
 
 // What reading a delivery hands back: the number of a refusal or 0, how many lists, and how many numbers in all of them.
 #[repr(C)]
-pub struct Delivered {
+pub struct DecodeResult {
     pub number: u32,
     pub lists: usize,
     pub numbers: usize,
 }
 
-impl Delivered {
+impl DecodeResult {
     // The same, of what reading a delivery hands back.
     pub fn refused(number: u32) -> Self
         ensures { λ r. ⌜ r ≡ delivered-refused number ⌝ }
     {
-        Delivered {
+        DecodeResult {
             number,
             lists: 0,
             numbers: 0,
@@ -59,19 +59,19 @@ impl Delivered {
 
 // What a run hands back: the number of a refusal or 0, the moves, the place of each node's reader, and the bookmark.
 #[repr(C)]
-pub struct Ran {
+pub struct RunResult {
     pub number: u32,
     pub moves: u32,
     pub places: [u16; 48],
     pub bookmark: u64,
 }
 
-impl Ran {
+impl RunResult {
     // The same, of what a run hands back.
     pub fn refused(number: u32) -> Self
         ensures { λ r. ⌜ r ≡ ran-refused number ⌝ }
     {
-        Ran {
+        RunResult {
             number,
             moves: 0,
             places: [0u16; 48],
@@ -81,18 +81,18 @@ impl Ran {
 }
 
 // What the work of the program `members` hands back: the number of a refusal or 0, how many members, and the moves.
-pub struct Counted {
+pub struct MembersResult {
     pub number: u32,
     pub count: usize,
     pub moves: u32,
 }
 
-impl Counted {
+impl MembersResult {
     // The same, of the work of the program `members`.
     pub fn refused(number: u32) -> Self
         ensures { λ r. ⌜ r ≡ counted-refused number ⌝ }
     {
-        Counted {
+        MembersResult {
             number,
             count: 0,
             moves: 0,

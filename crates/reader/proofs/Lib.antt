@@ -3,5 +3,5 @@ pub mod Answers
 pub mod Moves
 pub mod Standing
 pub mod Members
-pub mod Hops
+pub mod Siblings
 pub mod Laying

@@ -54,7 +54,7 @@ pub record Ready (numbers ends nodes behind : List ℕ) : Type 0 where
   pub lists : lists-of numbers ends ≡ accepted (lists-from numbers 0 ends)
   pub table : Behind nodes behind
 
--- so many hops through a table of ends, from a node on; a node that is not there ends them
-unfoldable pub hops : List ℕ → ℕ → ℕ → ℕ
-hops behind zero at = at
-hops behind (suc n) at = hops behind n (elim (ltb at 48) [ true ↦ getD behind at 0 | false ↦ at ])
+-- so many siblings on from a node, by a table of ends; a node that is not there ends them
+unfoldable pub siblings : List ℕ → ℕ → ℕ → ℕ
+siblings behind zero at = at
+siblings behind (suc n) at = siblings behind n (elim (ltb at 48) [ true ↦ getD behind at 0 | false ↦ at ])

@@ -9,7 +9,7 @@ ghost use Rattle.model.specs.Steps.{passed, read as read-list};
 ghost use Rattle.model.specs.declared.Node.{Node};
 ghost use Rattle.model.specs.Forms.{node-of};
 ghost use Rattle.expression.specs.Reading.{members};
-ghost use Rattle.reader.specs.Rows.{Behind, hops};
+ghost use Rattle.reader.specs.Rows.{Behind, siblings};
 ghost use Rattle.reader.specs.Sought.{readers, readers-of, sought, found-of, Tallied, Sound};
 use expression::Kind;
 
@@ -23,7 +23,7 @@ pub struct Readers {
 }
 
 // What a seek hands back: the readers after it, and the number that it answers or FINISHED.
-pub struct Sought {
+pub struct SeekResult {
     pub readers: Readers,
     pub answer: u64,
 }
@@ -115,7 +115,7 @@ fn members_at(b: u8) -> u8
 
 // Behind so many trees, the first at a node, by what is behind each node.
 fn end_of(behind: &[usize; 48], first: usize, members: u8) -> usize
-    ensures { λ r. ⌜ r ≡ hops (now (behind .entry)) members first ⌝ }
+    ensures { λ r. ⌜ r ≡ siblings (now (behind .entry)) members first ⌝ }
 {
     let mut at = first;
     let mut left = members;

@@ -9,7 +9,7 @@ use borrow.Author.Tests.{le-leb}
 use lib.Dec.{leb}
 use lib.ListN.{length, getD, take, drop, length-take}
 use lib.Seq.{take-append-seam}
-use Rattle.model.specs.declared.Counted.{Counted}
+use Rattle.model.specs.declared.MembersResult.{MembersResult}
 use Rattle.model.specs.Outcome.{Outcome, refused, accepted, _>>=_, _>>_, require, Sent, over, sent}
 use Rattle.model.specs.Forms.{read-packed}
 use Rattle.model.specs.Delivery.{read-delivery}
@@ -59,13 +59,13 @@ listing-told input =
 -- ---- what is handed back
 
 -- the members stand in the row
-record Stands (r : Counted) (row : List ℕ) (l : Listing) : Type 0 where
+record Stands (r : MembersResult) (row : List ℕ) (l : Listing) : Type 0 where
   pub number : r .number ≡ 0
   pub count : r .count ≡ length (l .members)
   pub moved : r .moves ≡ l .moves
   pub holds : take (r .count) row ≡ l .members
 
-module _ (input lent : List ℕ) (long : length lent ≡ 4096) (r : Counted) (row : List ℕ) (e : counted r row ≡ list-members input lent) where
+module _ (input lent : List ℕ) (long : length lent ≡ 4096) (r : MembersResult) (row : List ℕ) (e : counted r row ≡ list-members input lent) where
   number-is : (n : ℕ) → listing input ≡ refused n → r .number ≡ n
   unfolding list-members sent
   number-is n f = ap (λ (s : Sent). s .number) e ∙ ap (λ (o : Outcome Listing). sent 2 (lent ∷ []) (o >>= listed lent) .number) f

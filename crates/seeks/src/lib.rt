@@ -14,7 +14,7 @@ ghost use Rattle.seeks.specs.Finding.{Finds, Finds-in};
 use expression::Kind;
 use model::Node;
 use reader::Readers;
-use reader::Sought;
+use reader::SeekResult;
 
 // The seek of a node.
 pub fn seek(
@@ -25,7 +25,7 @@ pub fn seek(
     node: usize,
     start: Readers,
     to: u64,
-) -> Sought
+) -> SeekResult
     requires { ⌜ Ready (now numbers) (now ends) (now nodes) (now behind) ⌝ }
     requires { ⌜ Standing (length (now ends)) (now nodes) node ⌝ }
     requires { ⌜ (to ≤ top) × Tallied start ⌝ }
@@ -45,7 +45,7 @@ pub fn seek(
         to,
     );
     let readers = Readers { places, moves };
-    Sought { readers, answer }
+    SeekResult { readers, answer }
 }
 
 // The same, in lent places and moves.

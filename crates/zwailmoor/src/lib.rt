@@ -7,13 +7,13 @@ ghost use Rattle.model.specs.Calls.{written, delivered, ran, unpack-expression,
 ghost use Rattle.model.specs.Demands.{Third-demand-met};
 ghost use Rattle.lists.specs.Span.{span-says};
 use lists::Span;
-use model::Delivered;
-use model::Ran;
-use model::Written;
+use model::DecodeResult;
+use model::RunResult;
+use model::WriteResult;
 
 // A packed expression into its row form.
 #[no_mangle]
-pub extern "C" fn zwailmoor_unpack_expression(bytes: &[u8], lists: usize, row: &mut [u8]) -> Written
+pub extern "C" fn zwailmoor_unpack_expression(bytes: &[u8], lists: usize, row: &mut [u8]) -> WriteResult
     ensures { λ r. ⌜ written r (now (row .exit)) ≡ unpack-expression (now (bytes .entry)) lists (now (row .entry)) ⌝ }
 {
     forms::unpack_expression(bytes, lists, row)
@@ -21,7 +21,7 @@ pub extern "C" fn zwailmoor_unpack_expression(bytes: &[u8], lists: usize, row: &
 
 // The row form of an expression into its packed form.
 #[no_mangle]
-pub extern "C" fn zwailmoor_pack_expression(row: &[u8], lists: usize, bytes: &mut [u8]) -> Written
+pub extern "C" fn zwailmoor_pack_expression(row: &[u8], lists: usize, bytes: &mut [u8]) -> WriteResult
     ensures { λ r. ⌜ written r (now (bytes .exit)) ≡ pack-expression (now (row .entry)) lists (now (bytes .entry)) ⌝ }
 {
     forms::pack_expression(row, lists, bytes)
@@ -33,7 +33,7 @@ pub extern "C" fn zwailmoor_decode_delivery(
     bytes: &[u8],
     numbers: &mut [u32],
     ends: &mut [u32],
-) -> Delivered
+) -> DecodeResult
     ensures { λ r. ⌜ delivered r (now (numbers .exit)) (now (ends .exit)) ≡ decode-delivery (now (bytes .entry)) (now (numbers .entry)) (now (ends .entry)) ⌝ }
 {
     decode::decode_delivery(bytes, numbers, ends)
@@ -45,7 +45,7 @@ pub extern "C" fn zwailmoor_encode_delivery(
     numbers: &[u32],
     ends: &[u32],
     bytes: &mut [u8],
-) -> Written
+) -> WriteResult
     ensures { λ r. ⌜ written r (now (bytes .exit)) ≡ encode-delivery (now (numbers .entry)) (now (ends .entry)) (now (bytes .entry)) ⌝ }
 {
     encode::encode_delivery(numbers, ends, bytes)
@@ -69,7 +69,7 @@ pub extern "C" fn zwailmoor_run(
     codes: &[u8],
     arguments: &[u32],
     replies: &mut [u64],
-) -> Ran
+) -> RunResult
     ensures call { λ r. ⌜ ran r (now (replies .exit)) ≡ run-call (now (numbers .entry)) (now (ends .entry)) (now (packed .entry)) bookmark (now (codes .entry)) (now (arguments .entry)) (now (replies .entry)) ⌝ }
     ensures demand { λ r. ⌜ Third-demand-met (now (numbers .entry)) (now (ends .entry)) (now (packed .entry)) bookmark (now (codes .entry)) (now (arguments .entry)) (now (replies .entry)) (ran r (now (replies .exit))) ⌝ }
 {

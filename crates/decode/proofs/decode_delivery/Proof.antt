@@ -9,7 +9,7 @@ use native.Mathlib.Omega.{arith}
 use lib.ListN.{length, drop}
 use borrow.Author.Tests.{not-true, not-false}
 use Rattle.model.specs.Outcome.{Outcome, number-of, accepted, _>>=_, _>>_, require}
-use Rattle.model.specs.declared.Delivered.{Delivered}
+use Rattle.model.specs.declared.DecodeResult.{DecodeResult}
 use Rattle.model.specs.Lists.{count-holds}
 use Rattle.model.specs.Fields.{bits, only-fill}
 use Rattle.model.specs.Sets.{all-numbers}
@@ -27,8 +27,8 @@ use Rattle.decode.proofs.decode_delivery.Statement.{statement}
 use Rattle.decode.proofs.decode_delivery.Tie as tie
 
 -- a delivered-refused handed back
-handed : (numbers ends : List ℕ) {r : Delivered} {n : ℕ} → r ≡ delivered-refused n → delivered r numbers ends ≡ delivered (delivered-refused n) numbers ends
-handed numbers ends e = ap (λ (x : Delivered). delivered x numbers ends) e
+handed : (numbers ends : List ℕ) {r : DecodeResult} {n : ℕ} → r ≡ delivered-refused n → delivered r numbers ends ≡ delivered (delivered-refused n) numbers ends
+handed numbers ends e = ap (λ (x : DecodeResult). delivered x numbers ends) e
 
 -- how many lists there are
 number-read : (c : tie.After-known-told) → take-at (c .before .before .before .before .before .before .before .args .bytes .now) 6 0 ≡ accepted (c .before .n .given .0 .0, c .before .n .given .0 .1 .0)

@@ -9,7 +9,7 @@ use native.Mathlib.Omega.{arith}
 use lib.Pow.{pow-pos}
 use lib.ListN.{length, replicate}
 use borrow.Author.Tests.{not-true, not-false}
-use Rattle.model.specs.declared.Written.{Written}
+use Rattle.model.specs.declared.WriteResult.{WriteResult}
 use Rattle.model.specs.Lists.{all-ascending, lists-from, count-holds, ends-hold}
 use Rattle.model.specs.Fields.{field}
 use Rattle.model.specs.Delivery.{lists-bits, delivery}
@@ -25,8 +25,8 @@ use Rattle.encode.proofs.encode_delivery.Statement.{statement}
 use Rattle.encode.proofs.encode_delivery.Tie as tie
 
 -- a written-refused handed back
-handed : (lent : List ℕ) {r : Written} {n : ℕ} → r ≡ written-refused n → written r lent ≡ written (written-refused n) lent
-handed lent e = ap (λ (x : Written). written x lent) e
+handed : (lent : List ℕ) {r : WriteResult} {n : ℕ} → r ≡ written-refused n → written r lent ≡ written (written-refused n) lent
+handed lent e = ap (λ (x : WriteResult). written x lent) e
 
 -- 7 and 10 do not apply
 seven : (c : tie.Else1) → count-holds (length (c .before .before .before .before .before .args .ends .now)) ≡ true

@@ -5,7 +5,7 @@ use mathlib.Core.List.{List}
 use Prim.Native.Nat.{ℕ}
 use borrow.Author.Needs.{needs}
 use lib.ListN.{length}
-use Rattle.model.specs.declared.Ran.{Ran}
+use Rattle.model.specs.declared.RunResult.{RunResult}
 use Rattle.model.specs.Outcome.{number-of, Sent}
 use Rattle.model.specs.Lists.{lists-of}
 use Rattle.model.specs.Forms.{read-packed}
@@ -41,8 +41,8 @@ stands c =
     read-stands (args .numbers .now) (args .ends .now) (args .packed .now) (read c .got) (pass (e .before)) (read c .is) (e .read-expression .ensures)
 
 -- a refusal handed back
-handed : (lent : List ℕ) {r : Ran} {n : ℕ} → r ≡ ran-refused n → ran r lent ≡ ran (ran-refused n) lent
-handed lent e = ap (λ (x : Ran). ran x lent) e
+handed : (lent : List ℕ) {r : RunResult} {n : ℕ} → r ≡ ran-refused n → ran r lent ≡ ran (ran-refused n) lent
+handed lent e = ap (λ (x : RunResult). ran x lent) e
 
 -- the call is the definition's, and what is sent back meets demand 3
 met : (c : tie.After-test-lists) (back : Sent) → let args = entry c .args in

@@ -12,7 +12,7 @@ use lib.ListN.{length, drop, length-take}
 use lib.Pow.{pow-pos}
 use lib.Seq.{length-take-le}
 use Rattle.model.specs.Outcome.{Outcome}
-use Rattle.model.specs.declared.Written.{Written}
+use Rattle.model.specs.declared.WriteResult.{WriteResult}
 use Rattle.model.specs.Lists.{count-holds}
 use Rattle.model.specs.Expression.{Tree}
 use Rattle.model.specs.Fields.{field, bytes}
@@ -68,7 +68,7 @@ returns : tie.Need-returns
 returns c =
     let args = c .before .before .before .before .before .args in
     let wrong : count-holds (args .lists) ≡ false = sym (c .before .before .count-holds .ensures) ∙ not-true _ (c .before .if1 .taken) in
-    ap (λ (r : Written). written r (args .bytes .now)) (c .refused .ensures) ∙ pack-wrong (args .row .now) (args .lists) (args .bytes .now) wrong
+    ap (λ (r : WriteResult). written r (args .bytes .now)) (c .refused .ensures) ∙ pack-wrong (args .row .now) (args .lists) (args .bytes .now) wrong
 
 read-expression-requires : tie.Need-read-expression-requires
 read-expression-requires c κs = search needs
@@ -81,7 +81,7 @@ returns-2 c =
     let e = c .before .before .before in
     let args = e .before .before .before .before .before .args in
     let n = read e .number in
-    ap (λ (r : Written). written r (args .bytes .now)) (c .refused2 .ensures ∙ ap written-refused n)
+    ap (λ (r : WriteResult). written r (args .bytes .now)) (c .refused2 .ensures ∙ ap written-refused n)
     ∙ sends-refusal packed (λ t. length (packed t)) (λ t. refl) (args .bytes .now) (got e) (λ z. c .before .if2 .taken (n ∙ z))
     ∙ pack-on (args .row .now) (args .lists) (args .bytes .now) (holds (e .before))
 
@@ -107,7 +107,7 @@ returns-3 c =
     let n = c .before .before in
     let e = n .before .before .before .before .before in
     let args = e .before .before .before .before .before .args in
-    ap (λ (r : Written). written r (args .bytes .now)) (c .refused3 .ensures)
+    ap (λ (r : WriteResult). written r (args .bytes .now)) (c .refused3 .ensures)
     ∙ sends-short packed (λ t. length (packed t)) (λ t. refl) (args .bytes .now) (got e) (omega (arith, counted n .bytes-long, ap length (bytes-are e), c .before .if3 .taken))
     ∙ pack-on (args .row .now) (args .lists) (args .bytes .now) (holds (e .before))
 

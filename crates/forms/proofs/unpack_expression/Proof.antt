@@ -11,7 +11,7 @@ use borrow.Author.Tests.{not-true, not-false}
 use lib.ListN.{length, drop, length-take}
 use lib.Seq.{length-take-le}
 use Rattle.model.specs.Outcome.{Outcome}
-use Rattle.model.specs.declared.Written.{Written}
+use Rattle.model.specs.declared.WriteResult.{WriteResult}
 use Rattle.model.specs.Lists.{count-holds}
 use Rattle.model.specs.Expression.{Tree, size}
 use Rattle.model.specs.Forms.{row, read-packed}
@@ -44,7 +44,7 @@ returns : tie.Need-returns
 returns c =
     let args = c .before .before .before .before .before .args in
     let wrong : count-holds (args .lists) ≡ false = sym (c .before .before .count-holds .ensures) ∙ not-true _ (c .before .if1 .taken) in
-    ap (λ (r : Written). written r (args .row .now)) (c .refused .ensures) ∙ unpack-wrong (args .bytes .now) (args .lists) (args .row .now) wrong
+    ap (λ (r : WriteResult). written r (args .row .now)) (c .refused .ensures) ∙ unpack-wrong (args .bytes .now) (args .lists) (args .row .now) wrong
 
 read-expression-requires : tie.Need-read-expression-requires
 read-expression-requires c κs = search needs
@@ -57,7 +57,7 @@ returns-2 c =
     let e = c .before .before .before in
     let args = e .before .before .before .before .before .args in
     let n = read e .number in
-    ap (λ (r : Written). written r (args .row .now)) (c .refused2 .ensures ∙ ap written-refused n)
+    ap (λ (r : WriteResult). written r (args .row .now)) (c .refused2 .ensures ∙ ap written-refused n)
     ∙ sends-refusal row size row-long (args .row .now) (got e) (λ z. c .before .if2 .taken (n ∙ z))
     ∙ unpack-on (args .bytes .now) (args .lists) (args .row .now) (holds (e .before))
 
@@ -68,7 +68,7 @@ returns-3 : tie.Need-returns-3
 returns-3 c =
     let e = c .before .before .before .before .before in
     let args = e .before .before .before .before .before .args in
-    ap (λ (r : Written). written r (args .row .now)) (c .refused3 .ensures)
+    ap (λ (r : WriteResult). written r (args .row .now)) (c .refused3 .ensures)
     ∙ sends-short row size row-long (args .row .now) (got e) (omega (arith, read e .count, c .before .if3 .taken))
     ∙ unpack-on (args .bytes .now) (args .lists) (args .row .now) (holds (e .before))
 

@@ -6,7 +6,7 @@ use Prim.Native.Nat.{ℕ}
 use native.Mathlib.Omega.{arith}
 use borrow.Author.Needs.{needs}
 use lib.ListN.{length, replicate, length-take}
-use Rattle.model.specs.declared.Counted.{Counted}
+use Rattle.model.specs.declared.MembersResult.{MembersResult}
 use Rattle.model.specs.Outcome.{number-of}
 use Rattle.model.specs.Lists.{lists-from}
 use Rattle.model.specs.Run.{begin}
@@ -41,8 +41,8 @@ stands c =
     read-stands (args .numbers .now) (args .ends .now) (args .packed .now) (read c .got) (ap number-of (entry e .pre .lists)) (read c .is) (e .read-expression .ensures)
 
 -- a refusal handed back
-handed : (lent : List ℕ) {r : Counted} {n : ℕ} → r ≡ counted-refused n → counted r lent ≡ counted (counted-refused n) lent
-handed lent e = ap (λ (x : Counted). counted x lent) e
+handed : (lent : List ℕ) {r : MembersResult} {n : ℕ} → r ≡ counted-refused n → counted r lent ≡ counted (counted-refused n) lent
+handed lent e = ap (λ (x : MembersResult). counted x lent) e
 
 read-expression-requires : tie.Need-read-expression-requires
 read-expression-requires c κs = search needs

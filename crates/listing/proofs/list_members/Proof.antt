@@ -6,7 +6,7 @@ use Prim.Native.Nat.{ℕ, _+_}
 use native.Mathlib.Omega.{arith}
 use borrow.Author.Needs.{needs}
 use lib.ListN.{length, getD, replicate, length-take, length-replicate}
-use Rattle.model.specs.declared.Counted.{Counted}
+use Rattle.model.specs.declared.MembersResult.{MembersResult}
 use Rattle.model.specs.Outcome.{number-of}
 use Rattle.model.specs.Delivery.{read-delivery}
 use Rattle.model.specs.Calls.{counted, counted-refused}
@@ -48,8 +48,8 @@ laid : (c : tie.Else4) → Laid-lists (from c .decode-delivery .result) (from c 
 laid c = lists-laid (stored (from c)) (replicate 4096 0) (replicate 32 0) (zeros 4096) (zeros 32) _ _ _ (from c .decode-delivery .ensures) (read c .got) (read c .is)
 
 -- a refusal handed back
-handed : (lent : List ℕ) {r : Counted} {n : ℕ} → r ≡ counted-refused n → counted r lent ≡ counted (counted-refused n) lent
-handed lent e = ap (λ (x : Counted). counted x lent) e
+handed : (lent : List ℕ) {r : MembersResult} {n : ℕ} → r ≡ counted-refused n → counted r lent ≡ counted (counted-refused n) lent
+handed lent e = ap (λ (x : MembersResult). counted x lent) e
 
 refused-requires : tie.Need-refused-requires
 refused-requires c κs = search needs

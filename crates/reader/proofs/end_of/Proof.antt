@@ -1,4 +1,4 @@
--- `end_of` meets its contract: before each turn the hops that are left, from where it is, end where all of them do from the
+-- `end_of` meets its contract: before each turn the siblings that are left, from where it is, end where all of them do from the
 -- start. The measure is how many are left. Assumes nothing.
 use mathlib.Core.Path.{_≡_, refl, ap, _∙_}
 use mathlib.Core.List.{List}
@@ -6,13 +6,13 @@ use mathlib.Core.Logic.{⊎-elim}
 use Prim.Native.Nat.{ℕ, _-_}
 use native.Mathlib.Omega.{arith}
 use borrow.Author.Needs.{needs}
-use Rattle.reader.specs.Rows.{hops}
-use Rattle.reader.proofs.Hops.{hops-none, hop-inside, hop-outside}
+use Rattle.reader.specs.Rows.{siblings}
+use Rattle.reader.proofs.Siblings.{siblings-none, sibling-inside, sibling-outside}
 use Rattle.reader.proofs.end_of.Statement.{statement}
 use Rattle.reader.proofs.end_of.Tie as tie
 
 abbrev Inv-loop : tie.InvT-loop
-Inv-loop behind first members at₀ left₀ at left = hops behind left at ≡ hops behind members first
+Inv-loop behind first members at₀ left₀ at left = siblings behind left at ≡ siblings behind members first
 
 abbrev μ-loop : tie.MeasureT-loop
 μ-loop behind first members at₀ left₀ at left = left
@@ -38,15 +38,15 @@ loop-again c =
     let behind : List ℕ = at-loop .before .args .behind .now in
     let l = at-loop .loop in
     ⊎-elim
-    (λ w. ap (hops behind (l .left - 1)) (w .2) ∙ hop-inside behind (l .left) (l .at) (omega arith) (w .0 .taken) ∙ l .inv)
-    (λ w. ap (hops behind (l .left - 1)) (w .1) ∙ hop-outside behind (l .left) (l .at) (omega arith) (w .0 .left) ∙ l .inv)
+    (λ w. ap (siblings behind (l .left - 1)) (w .2) ∙ sibling-inside behind (l .left) (l .at) (omega arith) (w .0 .taken) ∙ l .inv)
+    (λ w. ap (siblings behind (l .left - 1)) (w .1) ∙ sibling-outside behind (l .left) (l .at) (omega arith) (w .0 .left) ∙ l .inv)
     (c .if1 .came)
 
 returns : tie.Need-returns Inv-loop μ-loop
 returns c =
     let l = c .before .loop in
     let none : l .left ≡ 0 = omega arith in
-    hops-none (c .before .before .args .behind .now) (l .left) (l .at) none ∙ l .inv
+    siblings-none (c .before .before .args .behind .now) (l .left) (l .at) none ∙ l .inv
 
 pub end-of-spec : {M : Type 1} → statement M
 end-of-spec =

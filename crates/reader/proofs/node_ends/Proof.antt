@@ -6,7 +6,7 @@ use Prim.Native.Nat.{ℕ, _-_, _≤_}
 use native.Mathlib.Omega.{arith}
 use lib.ListN.{length, length-set, replicate}
 use borrow.Author.Needs.{needs}
-use Rattle.reader.proofs.Hops.{Behind-from, behind-more, behind-none}
+use Rattle.reader.proofs.Siblings.{Behind-from, behind-more, behind-none}
 use Rattle.reader.proofs.node_ends.Statement.{statement}
 use Rattle.reader.proofs.node_ends.Tie as tie
 

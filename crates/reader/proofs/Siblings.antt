@@ -1,4 +1,4 @@
--- Hops through a table of ends: over trees that stand one after the other they go to the node behind all of them.
+-- Siblings by a table of ends: over trees that stand one after the other they lead to the node behind all of them.
 -- Assumes nothing.
 use mathlib.Core.Path.{_≡_, sym, ap, _∙_}
 use mathlib.Core.List.{List, [], _∷_}
@@ -13,24 +13,24 @@ use Rattle.model.specs.Outcome.{accepted}
 use Rattle.model.specs.Expression.{Tree, size}
 use Rattle.model.specs.Forms.{node-of}
 use Rattle.expression.specs.Reading.{members}
-use Rattle.reader.specs.Rows.{Stands, Stand-each, hops}
+use Rattle.reader.specs.Rows.{Stands, Stand-each, siblings}
 use Rattle.reader.proofs.Standing.{kind, below, span, many-below, size-below, there, root, below-stand}
 
--- ---- one hop
+-- ---- one sibling
 
-pub hops-none : (behind : List ℕ) (n at : ℕ) → n ≡ 0 → at ≡ hops behind n at
-unfolding hops
-hops-none behind n at h = rw h
+pub siblings-none : (behind : List ℕ) (n at : ℕ) → n ≡ 0 → at ≡ siblings behind n at
+unfolding siblings
+siblings-none behind n at h = rw h
 
-pub hop-inside : (behind : List ℕ) (n at : ℕ) → 0 < n → at < 48 → hops behind (n - 1) (getD behind at 0) ≡ hops behind n at
-unfolding hops
-hop-inside behind zero at h lt = absurd (omega arith)
-hop-inside behind (suc n) at h lt = let e : suc n - 1 ≡ n = omega arith in rw (e, lt-ltb at 48 lt)
+pub sibling-inside : (behind : List ℕ) (n at : ℕ) → 0 < n → at < 48 → siblings behind (n - 1) (getD behind at 0) ≡ siblings behind n at
+unfolding siblings
+sibling-inside behind zero at h lt = absurd (omega arith)
+sibling-inside behind (suc n) at h lt = let e : suc n - 1 ≡ n = omega arith in rw (e, lt-ltb at 48 lt)
 
-pub hop-outside : (behind : List ℕ) (n at : ℕ) → 0 < n → 48 ≤ at → hops behind (n - 1) at ≡ hops behind n at
-unfolding hops
-hop-outside behind zero at h le = absurd (omega arith)
-hop-outside behind (suc n) at h le = let e : suc n - 1 ≡ n = omega arith in rw (e, le-ltb at 48 le)
+pub sibling-outside : (behind : List ℕ) (n at : ℕ) → 0 < n → 48 ≤ at → siblings behind (n - 1) at ≡ siblings behind n at
+unfolding siblings
+sibling-outside behind zero at h le = absurd (omega arith)
+sibling-outside behind (suc n) at h le = let e : suc n - 1 ≡ n = omega arith in rw (e, le-ltb at 48 le)
 
 -- ---- the table from a node on
 
@@ -39,18 +39,18 @@ abbrev pub Behind-from : List ℕ → List ℕ → ℕ → Type 0
 Behind-from nodes behind from = (lists : ℕ) (t : Tree) (i : ℕ) → from ≤ i → Stands lists nodes t i → getD behind i 0 ≡ i + size t
 
 module _ (nodes behind : List ℕ) (from : ℕ) (table : Behind-from nodes behind from) where
-  -- as many hops as trees
-  through : (lists : ℕ) (ts : List Tree) (i : ℕ) → from ≤ i → Stand-each lists nodes ts i → hops behind (length ts) i ≡ i + span ts
-  unfolding hops span Stand-each
+  -- as many siblings as trees
+  through : (lists : ℕ) (ts : List Tree) (i : ℕ) → from ≤ i → Stand-each lists nodes ts i → siblings behind (length ts) i ≡ i + span ts
+  unfolding siblings span Stand-each
   through lists [] i h s = omega arith
   through lists (t ∷ ts) i h s =
-      let hop : hops behind (suc (length ts)) i ≡ hops behind (length ts) (getD behind i 0) = rw (lt-ltb i 48 (there lists nodes t i (s .0)), hops) in
-      let rest : hops behind (length ts) (i + size t) ≡ i + size t + span ts = through lists ts (i + size t) (omega arith) (s .1) in
-      hop ∙ ap (hops behind (length ts)) (table lists t i h (s .0)) ∙ rest ∙ omega arith
+      let sibling : siblings behind (suc (length ts)) i ≡ siblings behind (length ts) (getD behind i 0) = rw (lt-ltb i 48 (there lists nodes t i (s .0)), siblings) in
+      let rest : siblings behind (length ts) (i + size t) ≡ i + size t + span ts = through lists ts (i + size t) (omega arith) (s .1) in
+      sibling ∙ ap (siblings behind (length ts)) (table lists t i h (s .0)) ∙ rest ∙ omega arith
 
 -- one node more: behind it are its members, as many as it says
 pub behind-more : (nodes behind : List ℕ) (node many end : ℕ) → node < length behind → ((n : Node) → node-of (getD nodes node 0) ≡ accepted n → many ≡ members n)
-    → end ≡ hops behind many (node + 1) → Behind-from nodes behind (node + 1) → Behind-from nodes (set behind node end) node
+    → end ≡ siblings behind many (node + 1) → Behind-from nodes behind (node + 1) → Behind-from nodes (set behind node end) node
 behind-more nodes behind node many end lt m e table lists t i h s = go (ℕ-discrete i node)
   where
     go : Dec (i ≡ node) → getD (set behind node end) i 0 ≡ i + size t
