@@ -1,4 +1,4 @@
-// A delivery, read. It is walked through once without writing, so that a however late, leaves the lent rows as they
+// A delivery, read. It is walked through once without writing, so that a refusal, however late, leaves the lent rows as they
 // are, and once more to write what is then known to read. Both walks are held to the one definition of reading.
 ghost use mathlib.Core.Path.{_≡_};
 ghost use Prim.Native.Nat.{_+_, _^_, _≤_, _<_, max};
@@ -145,7 +145,7 @@ fn walk_gaps(s: &[u8], at: usize, w: u32, n: u32, last: u32) -> Read
     }
 }
 
-// The number of a header's 0 where there is none.
+// The number of a header's refusal, 0 where there is none.
 fn head_number(head: Head) -> u32
     ensures { λ r. ⌜ r ≡ number-of (head-says head) ⌝ }
 {
@@ -309,7 +309,7 @@ fn store_lists(s: &[u8], at: usize, n: u32, numbers: &mut [u32], ends: &mut [u32
     }
 }
 
-// The number of a 0 where there is none.
+// The number of a refusal, 0 where there is none.
 fn number_of(read: Read) -> u32
     ensures { λ r. ⌜ r ≡ number-of (read-says read) ⌝ }
 {
