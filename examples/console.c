@@ -108,23 +108,23 @@ static void print_lists(const struct question *asked)
 static int read_question(size_t length, struct question *asked)
 {
     uint8_t row[ZWAILMOOR_NODES];
-    zwailmoor_delivered delivered;
-    zwailmoor_written unpacked;
+    zwailmoor_decode_result decoded;
+    zwailmoor_write_result unpacked;
 
     if (length < 1 || length - 1 < input[0])
         return refused("the input", ZWAILMOOR_ENDS_EARLY);
     asked->packed = input + 1;
     asked->packed_length = input[0];
-    delivered = zwailmoor_decode_delivery(asked->packed + asked->packed_length, length - 1 - asked->packed_length, numbers,
-                                          NUMBERS, ends, ZWAILMOOR_LISTS);
-    if (delivered.number != ZWAILMOOR_ACCEPTED)
-        return refused("the delivery", delivered.number);
-    unpacked = zwailmoor_unpack_expression(asked->packed, asked->packed_length, delivered.lists, row, ZWAILMOOR_NODES);
+    decoded = zwailmoor_decode_delivery(asked->packed + asked->packed_length, length - 1 - asked->packed_length, numbers,
+                                        NUMBERS, ends, ZWAILMOOR_LISTS);
+    if (decoded.number != ZWAILMOOR_ACCEPTED)
+        return refused("the delivery", decoded.number);
+    unpacked = zwailmoor_unpack_expression(asked->packed, asked->packed_length, decoded.lists, row, ZWAILMOOR_NODES);
     if (unpacked.number != ZWAILMOOR_ACCEPTED)
         return refused("the expression", unpacked.number);
-    asked->lists = delivered.lists;
-    asked->count = delivered.numbers;
-    printf("lists %zu, numbers %zu, nodes %zu\n", delivered.lists, delivered.numbers, unpacked.count);
+    asked->lists = decoded.lists;
+    asked->count = decoded.numbers;
+    printf("lists %zu, numbers %zu, nodes %zu\n", decoded.lists, decoded.numbers, unpacked.count);
     return 0;
 }
 
@@ -138,16 +138,17 @@ static int print_members(const struct question *asked)
     size_t members = 0, page, i;
 
     for (page = 1; replies[PAGE - 1] != ZWAILMOOR_FINISHED; page++) {
-        zwailmoor_ran ran = zwailmoor_run(numbers, asked->count, ends, asked->lists, asked->packed, asked->packed_length,
-                                          bookmark, codes, PAGE, arguments, PAGE, replies, PAGE);
+        zwailmoor_run_result result =
+            zwailmoor_run(numbers, asked->count, ends, asked->lists, asked->packed, asked->packed_length, bookmark, codes, PAGE,
+                          arguments, PAGE, replies, PAGE);
 
-        if (ran.number != ZWAILMOOR_ACCEPTED)
-            return refused("the run", ran.number);
+        if (result.number != ZWAILMOOR_ACCEPTED)
+            return refused("the run", result.number);
         printf("page %zu from bookmark %" PRIu64 ":", page, bookmark);
         for (i = 0; i < PAGE && replies[i] != ZWAILMOOR_FINISHED; i++)
             printf(" %" PRIu64, replies[i]);
         members += i;
-        bookmark = ran.bookmark;
+        bookmark = result.bookmark;
         printf("%s; go on from bookmark %" PRIu64 "\n", i < PAGE ? " finished" : "", bookmark);
     }
     printf("members %zu\n", members);

@@ -77,17 +77,17 @@ extern "C" {
 #define ZWAILMOOR_INTERSECTION(nodes) (192 + (nodes))  /* Of 1 to 8 nodes. */
 
 /* What reading or writing one row hands back: how many elements were written. */
-typedef struct zwailmoor_written {
+typedef struct zwailmoor_write_result {
     uint32_t number;
     size_t count;
-} zwailmoor_written;
+} zwailmoor_write_result;
 
 /* What reading a delivery hands back: how many lists (and ends) and how many numbers were written. */
-typedef struct zwailmoor_delivered {
+typedef struct zwailmoor_decode_result {
     uint32_t number;
     size_t lists;
     size_t numbers;
-} zwailmoor_delivered;
+} zwailmoor_decode_result;
 
 /* Where one list stands in the row of numbers. */
 typedef struct zwailmoor_span {
@@ -99,42 +99,42 @@ typedef struct zwailmoor_span {
  * What a run hands back: how far its readers moved in all; each node's place in expression order, 0 at operators and unused
  * nodes; and the bookmark to go on from.
  */
-typedef struct zwailmoor_ran {
+typedef struct zwailmoor_run_result {
     uint32_t number;
     uint32_t moves;
     uint16_t places[ZWAILMOOR_NODES];
     uint64_t bookmark;
-} zwailmoor_ran;
+} zwailmoor_run_result;
 
 /*
  * Reads a packed expression over so many lists, and writes its row form: one byte a node, `count` of them. 48 places are always
  * enough.
  * Refusals: 7; at each node 2, 3, 1, 4; after the last node 5, then 6.
  */
-zwailmoor_written zwailmoor_unpack_expression(const uint8_t *packed, size_t packed_length, size_t lists, uint8_t *row,
-                                              size_t row_length);
+zwailmoor_write_result zwailmoor_unpack_expression(const uint8_t *packed, size_t packed_length, size_t lists, uint8_t *row,
+                                                   size_t row_length);
 
 /*
  * Reads an expression's row form over so many lists, and writes it packed: `count` bytes. 41 places are always enough.
  * Refusals: 7; at each node 2, 3, 1, 4 or 14; after the last node 5, then 6.
  */
-zwailmoor_written zwailmoor_pack_expression(const uint8_t *row, size_t row_length, size_t lists, uint8_t *packed,
-                                            size_t packed_length);
+zwailmoor_write_result zwailmoor_pack_expression(const uint8_t *row, size_t row_length, size_t lists, uint8_t *packed,
+                                                 size_t packed_length);
 
 /*
  * Reads a delivery, and writes the lists' numbers one list after the other, and one end for each list: list k stands from the
  * end of list k - 1 (0 for the first) up to its own end, that end excluded. 32 places are always enough for the ends.
  * Refusals: 1 wherever the bits run out; 7; 6 for the ends; then for each list 6 for the numbers, 8, 9; at the end 5.
  */
-zwailmoor_delivered zwailmoor_decode_delivery(const uint8_t *delivery, size_t delivery_length, uint32_t *numbers,
-                                              size_t numbers_length, uint32_t *ends, size_t ends_length);
+zwailmoor_decode_result zwailmoor_decode_delivery(const uint8_t *delivery, size_t delivery_length, uint32_t *numbers,
+                                                  size_t numbers_length, uint32_t *ends, size_t ends_length);
 
 /*
  * Writes lists as a delivery: `count` bytes. There are as many lists as ends, and numbers behind the last end are ignored.
  * Refusals: 7, 10, 11 (each over all lists before the next), 6.
  */
-zwailmoor_written zwailmoor_encode_delivery(const uint32_t *numbers, size_t numbers_length, const uint32_t *ends,
-                                            size_t ends_length, uint8_t *delivery, size_t delivery_length);
+zwailmoor_write_result zwailmoor_encode_delivery(const uint32_t *numbers, size_t numbers_length, const uint32_t *ends,
+                                                 size_t ends_length, uint8_t *delivery, size_t delivery_length);
 
 /*
  * Where a list stands in the row of numbers: `size` numbers from numbers[start] on. Both are 0 if refusal 7, 10 or 11 would
@@ -150,10 +150,10 @@ zwailmoor_span zwailmoor_list_span(const uint32_t *numbers, size_t numbers_lengt
  * A member that was drawn is not drawn again in this run, nor from the bookmark that it hands back.
  * Refusals: 7, 10, 11 (each over all lists before the next); of the expression as in zwailmoor_unpack_expression 1 to 5; 12; 13.
  */
-zwailmoor_ran zwailmoor_run(const uint32_t *numbers, size_t numbers_length, const uint32_t *ends, size_t ends_length,
-                            const uint8_t *packed, size_t packed_length, uint64_t bookmark, const uint8_t *codes,
-                            size_t codes_length, const uint32_t *arguments, size_t arguments_length, uint64_t *replies,
-                            size_t replies_length);
+zwailmoor_run_result zwailmoor_run(const uint32_t *numbers, size_t numbers_length, const uint32_t *ends, size_t ends_length,
+                                   const uint8_t *packed, size_t packed_length, uint64_t bookmark, const uint8_t *codes,
+                                   size_t codes_length, const uint32_t *arguments, size_t arguments_length, uint64_t *replies,
+                                   size_t replies_length);
 
 #ifdef __cplusplus
 }

@@ -85,7 +85,7 @@ fn one_run(dice: &mut Dice, expressions: &[Vec<u8>]) -> u32 {
     let engine = zwailmoor::run(&numbers, &ends, &packed, bookmark, &codes, &arguments, &mut a);
     let peer = same_steps::run(&numbers, &ends, &packed, bookmark, &codes, &arguments, &mut b);
     let engine = engine.map_err(|refusal| refusal.number());
-    let engine = engine.map(|r| same_steps::Ran {
+    let engine = engine.map(|r| same_steps::RunResult {
         moves: r.moves,
         places: r.places,
         bookmark: r.bookmark,

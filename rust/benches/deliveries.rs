@@ -37,14 +37,14 @@ impl Rows {
     }
 
     fn engine_decode(&mut self, delivery: &[u8]) {
-        let delivered = zwailmoor::decode_delivery(delivery, &mut self.numbers, &mut self.ends);
-        let delivered = delivered.unwrap_or_else(|refusal| panic!("the engine refuses with {}", refusal.number()));
-        assert_eq!((delivered.lists, delivered.numbers), (self.ends.len(), self.numbers.len()));
+        let decoded = zwailmoor::decode_delivery(delivery, &mut self.numbers, &mut self.ends);
+        let decoded = decoded.unwrap_or_else(|refusal| panic!("the engine refuses with {}", refusal.number()));
+        assert_eq!((decoded.lists, decoded.numbers), (self.ends.len(), self.numbers.len()));
     }
 
     fn rust_decode(&mut self, delivery: &[u8]) {
-        let delivered = bits::decode(delivery, &mut self.numbers, &mut self.ends).expect("the delivery is good");
-        assert_eq!(delivered, (self.ends.len(), self.numbers.len()));
+        let decoded = bits::decode(delivery, &mut self.numbers, &mut self.ends).expect("the delivery is good");
+        assert_eq!(decoded, (self.ends.len(), self.numbers.len()));
     }
 
     fn engine_encode(&self, delivery: &mut [u8]) -> usize {

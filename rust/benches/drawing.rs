@@ -39,37 +39,37 @@ impl Prepared {
         Prepared::new(case, vec![0; members + 1], vec![0; members + 1])
     }
 
-    pub fn engine(&self, calls: usize, replies: &mut [u64]) -> same_steps::Ran {
+    pub fn engine(&self, calls: usize, replies: &mut [u64]) -> same_steps::RunResult {
         let (codes, arguments) = (&self.codes[..calls], &self.arguments[..calls]);
-        let ran = zwailmoor::run(&self.numbers, &self.ends, &self.packed, 0, codes, arguments, replies);
-        let ran = ran.unwrap_or_else(|refusal| panic!("the engine refuses with {}", refusal.number()));
-        same_steps::Ran {
-            moves: ran.moves,
-            places: ran.places,
-            bookmark: ran.bookmark,
+        let result = zwailmoor::run(&self.numbers, &self.ends, &self.packed, 0, codes, arguments, replies);
+        let result = result.unwrap_or_else(|refusal| panic!("the engine refuses with {}", refusal.number()));
+        same_steps::RunResult {
+            moves: result.moves,
+            places: result.places,
+            bookmark: result.bookmark,
         }
     }
 
-    pub fn same_steps(&self, calls: usize, replies: &mut [u64]) -> same_steps::Ran {
+    pub fn same_steps(&self, calls: usize, replies: &mut [u64]) -> same_steps::RunResult {
         let (codes, arguments) = (&self.codes[..calls], &self.arguments[..calls]);
-        let ran = same_steps::run(&self.numbers, &self.ends, &self.packed, 0, codes, arguments, replies);
-        ran.unwrap_or_else(|number| panic!("the same steps refuse with {number}"))
+        let result = same_steps::run(&self.numbers, &self.ends, &self.packed, 0, codes, arguments, replies);
+        result.unwrap_or_else(|number| panic!("the same steps refuse with {number}"))
     }
 
     /// Has both run all calls, demands equal replies, moves, places and bookmarks, and hands them back.
-    pub fn verified(&self) -> (Vec<u64>, same_steps::Ran) {
+    pub fn verified(&self) -> (Vec<u64>, same_steps::RunResult) {
         let calls = self.codes.len();
         let mut replies = vec![UNTOUCHED; calls + 1];
         let mut same_replies = replies.clone();
-        let ran = self.engine(calls, &mut replies);
+        let result = self.engine(calls, &mut replies);
         assert_eq!(
-            ran,
+            result,
             self.same_steps(calls, &mut same_replies),
             "moves, places or bookmark differ"
         );
         assert!(replies == same_replies, "replies differ");
         assert_eq!(replies.pop(), Some(UNTOUCHED), "something was written behind the replies");
-        (replies, ran)
+        (replies, result)
     }
 
     /// The engine and the same steps, each with all calls and with none: the tests alone.
@@ -108,15 +108,15 @@ fn expected(case: &Case) -> Vec<u32> {
     merges::members(&case.tree, &case.lists).into_owned()
 }
 
-fn verify_engine(prepared: &Prepared, expected: &[u32]) -> same_steps::Ran {
-    let (replies, ran) = prepared.verified();
+fn verify_engine(prepared: &Prepared, expected: &[u32]) -> same_steps::RunResult {
+    let (replies, result) = prepared.verified();
     let (last, members) = replies.split_last().expect("there is one call more than members");
     assert_eq!(*last, FINISHED);
     assert!(
         members.iter().copied().eq(expected.iter().map(|&x| u64::from(x))),
         "the engine's members differ"
     );
-    ran
+    result
 }
 
 fn add_std<'a>(contest: &mut Contest<'a>, case: &'a Case, expected: &[u32]) {

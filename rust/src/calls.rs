@@ -5,7 +5,7 @@ use crate::Refusal;
 
 /// What a delivery held: so many lists, and as many ends; so many numbers in all.
 #[derive(Debug, Clone, Copy, PartialEq, Eq)]
-pub struct Delivered {
+pub struct DecodeResult {
     /// How many lists, and so how many ends were written.
     pub lists: usize,
     /// How many numbers were written.
@@ -14,7 +14,7 @@ pub struct Delivered {
 
 /// What a run hands back beside the replies.
 #[derive(Debug, Clone, Copy, PartialEq, Eq)]
-pub struct Ran {
+pub struct RunResult {
     /// How many moves the readers made in all: the sum of the places.
     pub moves: u32,
     /// How far each node's reader moved, in expression order; 0 at operators and unused nodes.
@@ -23,8 +23,8 @@ pub struct Ran {
     pub bookmark: u64,
 }
 
-fn count(written: ffi::Written) -> Result<usize, Refusal> {
-    Refusal::test(written.number).map(|()| written.count)
+fn count(result: ffi::WriteResult) -> Result<usize, Refusal> {
+    Refusal::test(result.number).map(|()| result.count)
 }
 
 /// Writes a packed expression over so many lists in its row form, one byte a node, and hands back how many nodes.
@@ -53,11 +53,11 @@ pub fn pack_expression(row: &[u8], lists: usize, packed: &mut [u8]) -> Result<us
 /// # Errors
 /// 1 wherever the bits run out; 7; 6 for the ends; then for each list 6 for the numbers, 8, 9; at the end 5. Both rows are then as
 /// they were.
-pub fn decode_delivery(delivery: &[u8], numbers: &mut [u32], ends: &mut [u32]) -> Result<Delivered, Refusal> {
-    let delivered = ffi::decode_delivery(delivery, numbers, ends);
-    Refusal::test(delivered.number).map(|()| Delivered {
-        lists: delivered.lists,
-        numbers: delivered.numbers,
+pub fn decode_delivery(delivery: &[u8], numbers: &mut [u32], ends: &mut [u32]) -> Result<DecodeResult, Refusal> {
+    let result = ffi::decode_delivery(delivery, numbers, ends);
+    Refusal::test(result.number).map(|()| DecodeResult {
+        lists: result.lists,
+        numbers: result.numbers,
     })
 }
 
@@ -95,11 +95,11 @@ pub fn run(
     codes: &[u8],
     arguments: &[u32],
     replies: &mut [u64],
-) -> Result<Ran, Refusal> {
-    let ran = ffi::run(numbers, ends, packed, bookmark, codes, arguments, replies);
-    Refusal::test(ran.number).map(|()| Ran {
-        moves: ran.moves,
-        places: ran.places,
-        bookmark: ran.bookmark,
+) -> Result<RunResult, Refusal> {
+    let result = ffi::run(numbers, ends, packed, bookmark, codes, arguments, replies);
+    Refusal::test(result.number).map(|()| RunResult {
+        moves: result.moves,
+        places: result.places,
+        bookmark: result.bookmark,
     })
 }

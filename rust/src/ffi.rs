@@ -8,7 +8,7 @@
 /// What reading or writing one row hands back.
 #[repr(C)]
 #[derive(Debug, Clone, Copy, PartialEq, Eq)]
-pub struct Written {
+pub struct WriteResult {
     pub number: u32,
     pub count: usize,
 }
@@ -16,7 +16,7 @@ pub struct Written {
 /// What reading a delivery hands back.
 #[repr(C)]
 #[derive(Debug, Clone, Copy, PartialEq, Eq)]
-pub struct Delivered {
+pub struct DecodeResult {
     pub number: u32,
     pub lists: usize,
     pub numbers: usize,
@@ -33,7 +33,7 @@ pub struct Span {
 /// What a run hands back.
 #[repr(C)]
 #[derive(Debug, Clone, Copy, PartialEq, Eq)]
-pub struct Ran {
+pub struct RunResult {
     pub number: u32,
     pub moves: u32,
     pub places: [u16; 48],
@@ -47,14 +47,14 @@ extern "C" {
         lists: usize,
         row: *mut u8,
         row_length: usize,
-    ) -> Written;
+    ) -> WriteResult;
     fn zwailmoor_pack_expression(
         row: *const u8,
         row_length: usize,
         lists: usize,
         packed: *mut u8,
         packed_length: usize,
-    ) -> Written;
+    ) -> WriteResult;
     fn zwailmoor_decode_delivery(
         delivery: *const u8,
         delivery_length: usize,
@@ -62,7 +62,7 @@ extern "C" {
         numbers_length: usize,
         ends: *mut u32,
         ends_length: usize,
-    ) -> Delivered;
+    ) -> DecodeResult;
     fn zwailmoor_encode_delivery(
         numbers: *const u32,
         numbers_length: usize,
@@ -70,7 +70,7 @@ extern "C" {
         ends_length: usize,
         delivery: *mut u8,
         delivery_length: usize,
-    ) -> Written;
+    ) -> WriteResult;
     fn zwailmoor_list_span(numbers: *const u32, numbers_length: usize, ends: *const u32, ends_length: usize, list: usize)
         -> Span;
     fn zwailmoor_run(
@@ -87,20 +87,20 @@ extern "C" {
         arguments_length: usize,
         replies: *mut u64,
         replies_length: usize,
-    ) -> Ran;
+    ) -> RunResult;
 }
 
-pub fn unpack_expression(packed: &[u8], lists: usize, row: &mut [u8]) -> Written {
+pub fn unpack_expression(packed: &[u8], lists: usize, row: &mut [u8]) -> WriteResult {
     // SAFETY: both pairs are slices, and `row`, the one written, is `&mut`.
     unsafe { zwailmoor_unpack_expression(packed.as_ptr(), packed.len(), lists, row.as_mut_ptr(), row.len()) }
 }
 
-pub fn pack_expression(row: &[u8], lists: usize, packed: &mut [u8]) -> Written {
+pub fn pack_expression(row: &[u8], lists: usize, packed: &mut [u8]) -> WriteResult {
     // SAFETY: both pairs are slices, and `packed`, the one written, is `&mut`.
     unsafe { zwailmoor_pack_expression(row.as_ptr(), row.len(), lists, packed.as_mut_ptr(), packed.len()) }
 }
 
-pub fn decode_delivery(delivery: &[u8], numbers: &mut [u32], ends: &mut [u32]) -> Delivered {
+pub fn decode_delivery(delivery: &[u8], numbers: &mut [u32], ends: &mut [u32]) -> DecodeResult {
     // SAFETY: all pairs are slices, and the two that are written are `&mut`, so apart from each other.
     unsafe {
         zwailmoor_decode_delivery(
@@ -114,7 +114,7 @@ pub fn decode_delivery(delivery: &[u8], numbers: &mut [u32], ends: &mut [u32]) -
     }
 }
 
-pub fn encode_delivery(numbers: &[u32], ends: &[u32], delivery: &mut [u8]) -> Written {
+pub fn encode_delivery(numbers: &[u32], ends: &[u32], delivery: &mut [u8]) -> WriteResult {
     // SAFETY: all pairs are slices, and `delivery`, the one written, is `&mut`; those that are only read may overlap.
     unsafe {
         zwailmoor_encode_delivery(
@@ -141,7 +141,7 @@ pub fn run(
     codes: &[u8],
     arguments: &[u32],
     replies: &mut [u64],
-) -> Ran {
+) -> RunResult {
     // SAFETY: all pairs are slices, and `replies`, the one written, is `&mut`; those that are only read may overlap.
     unsafe {
         zwailmoor_run(

@@ -42,7 +42,7 @@ mod members;
 mod refusal;
 
 pub use call::{Call, Reply};
-pub use calls::{decode_delivery, encode_delivery, list_part, pack_expression, run, unpack_expression, Delivered, Ran};
+pub use calls::{decode_delivery, encode_delivery, list_part, pack_expression, run, unpack_expression, DecodeResult, RunResult};
 pub use members::{members, Members};
 pub use refusal::Refusal;
 

@@ -60,7 +60,7 @@ impl Members<'_> {
     }
 
     fn draw(&mut self) -> Result<(), Refusal> {
-        let ran = run(
+        let result = run(
             self.numbers,
             self.ends,
             self.packed,
@@ -69,7 +69,7 @@ impl Members<'_> {
             &self.arguments,
             &mut self.replies,
         )?;
-        self.drawn = ran.bookmark;
+        self.drawn = result.bookmark;
         self.at = 0;
         Ok(())
     }

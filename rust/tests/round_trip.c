@@ -13,7 +13,7 @@ static int expressions(void)
     static const uint8_t packed[2] = {0x40, 0x01}; /* list 0 minus list 1 */
     uint8_t row[3];
     uint8_t bytes[2];
-    zwailmoor_written out = zwailmoor_unpack_expression(packed, 2, 2, row, 3);
+    zwailmoor_write_result out = zwailmoor_unpack_expression(packed, 2, 2, row, 3);
     REQUIRE(1, out.number == ZWAILMOOR_ACCEPTED && out.count == 3)
     REQUIRE(2, row[0] == ZWAILMOOR_DIFFERENCE && row[1] == 0 && row[2] == 1)
     out = zwailmoor_pack_expression(row, 3, 2, bytes, 2);
@@ -26,7 +26,7 @@ static int operators(void)
     static const uint8_t either[3] = {ZWAILMOOR_UNION(2), 0, 1};
     static const uint8_t both[3] = {ZWAILMOOR_INTERSECTION(2), 0, 1};
     uint8_t bytes[3];
-    zwailmoor_written out = zwailmoor_pack_expression(either, 3, 2, bytes, 3);
+    zwailmoor_write_result out = zwailmoor_pack_expression(either, 3, 2, bytes, 3);
     REQUIRE(10, out.number == ZWAILMOOR_ACCEPTED && out.count == 3)
     REQUIRE(11, bytes[0] == 0x88 && bytes[1] == 0x00 && bytes[2] == 0x20)
     out = zwailmoor_pack_expression(both, 3, 2, bytes, 3);
@@ -41,10 +41,10 @@ static int deliveries(void)
     uint32_t numbers[3];
     uint32_t ends[1];
     uint8_t bytes[8];
-    zwailmoor_delivered in = zwailmoor_decode_delivery(delivery, 8, numbers, 3, ends, 1);
+    zwailmoor_decode_result in = zwailmoor_decode_delivery(delivery, 8, numbers, 3, ends, 1);
     REQUIRE(4, in.number == ZWAILMOOR_ACCEPTED && in.lists == 1 && in.numbers == 3)
     REQUIRE(5, numbers[0] == 2 && numbers[1] == 3 && numbers[2] == 5 && ends[0] == 3)
-    zwailmoor_written out = zwailmoor_encode_delivery(numbers, 3, ends, 1, bytes, 8);
+    zwailmoor_write_result out = zwailmoor_encode_delivery(numbers, 3, ends, 1, bytes, 8);
     REQUIRE(6, out.number == ZWAILMOOR_ACCEPTED && out.count == 8 && memcmp(bytes, delivery, 8) == 0)
     zwailmoor_span part = zwailmoor_list_span(numbers, 3, ends, 1, 0);
     REQUIRE(7, part.start == 0 && part.size == 3)
@@ -59,8 +59,8 @@ static int runs(void)
     static const uint8_t codes[2] = {ZWAILMOOR_NEXT, ZWAILMOOR_CHECK};
     static const uint32_t arguments[2] = {0, 5};
     uint64_t replies[2];
-    zwailmoor_ran ran = zwailmoor_run(numbers, 3, ends, 1, list, 1, 3, codes, 2, arguments, 2, replies, 2);
-    REQUIRE(8, ran.number == ZWAILMOOR_ACCEPTED && ran.moves == 2 && ran.places[0] == 2 && ran.bookmark == 5)
+    zwailmoor_run_result result = zwailmoor_run(numbers, 3, ends, 1, list, 1, 3, codes, 2, arguments, 2, replies, 2);
+    REQUIRE(8, result.number == ZWAILMOOR_ACCEPTED && result.moves == 2 && result.places[0] == 2 && result.bookmark == 5)
     REQUIRE(9, replies[0] == 3 && replies[1] == ZWAILMOOR_YES)
     return 0;
 }

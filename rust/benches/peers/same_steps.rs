@@ -2,7 +2,7 @@
 
 /// What a run hands back.
 #[derive(Debug, PartialEq, Eq)]
-pub struct Ran {
+pub struct RunResult {
     pub moves: u32,
     pub places: [u16; 48],
     pub bookmark: u64,
@@ -256,7 +256,7 @@ pub fn run(
     codes: &[u8],
     arguments: &[u32],
     replies: &mut [u64],
-) -> Result<Ran, u32> {
+) -> Result<RunResult, u32> {
     let lists = test_lists(numbers, ends)?;
     let mut parser = Parser {
         packed,
@@ -277,7 +277,7 @@ pub fn run(
     }
     let mut places = [0; 48];
     machine.root.places(0, &mut places);
-    Ok(Ran {
+    Ok(RunResult {
         moves: places.iter().map(|&p| u32::from(p)).sum(),
         places,
         bookmark: machine.floor,

@@ -4,7 +4,7 @@ mod members;
 mod paper;
 mod refusals;
 
-use crate::{run, Call, Ran, Refusal, Reply};
+use crate::{run, Call, Refusal, Reply, RunResult};
 
 const FIRST: &[u32] = &[0, 1, 2, 5, 6, 8, 9];
 const SECOND: &[u32] = &[0, 2, 3, 4, 5];
@@ -32,14 +32,14 @@ fn packed(row: &[u8]) -> Vec<u8> {
 }
 
 /// A run over lists and a row form.
-fn ask(lists: &[&[u32]], row: &[u8], bookmark: u64, calls: &[Call]) -> Result<(Vec<Reply>, Ran), Refusal> {
+fn ask(lists: &[&[u32]], row: &[u8], bookmark: u64, calls: &[Call]) -> Result<(Vec<Reply>, RunResult), Refusal> {
     let (numbers, ends) = lent(lists);
     let codes: Vec<u8> = calls.iter().map(|call| call.code()).collect();
     let arguments: Vec<u32> = calls.iter().map(|call| call.argument()).collect();
     let mut replies = vec![0; calls.len()];
-    let ran = run(&numbers, &ends, &packed(row), bookmark, &codes, &arguments, &mut replies)?;
+    let result = run(&numbers, &ends, &packed(row), bookmark, &codes, &arguments, &mut replies)?;
     let replies = replies.into_iter().map(|reply| Reply::from_row(reply).unwrap()).collect();
-    Ok((replies, ran))
+    Ok((replies, result))
 }
 
 /// 48 places, these first.

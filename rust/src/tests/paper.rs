@@ -3,23 +3,23 @@
 use super::{ask, lent, packed, places, FIRST, FOURTH, SECOND, THIRD, TOP};
 use crate::Call::{AtOrPast, Check, Next, Past};
 use crate::Reply::{Finished, Member, No, Unknown, Yes};
-use crate::{decode_delivery, encode_delivery, list_part, pack_expression, run, unpack_expression, Delivered, Reply};
+use crate::{decode_delivery, encode_delivery, list_part, pack_expression, run, unpack_expression, DecodeResult, Reply};
 
 #[test]
 fn p1_difference() {
-    let (replies, ran) = ask(&[FIRST, FOURTH], &[64, 0, 1], 0, &[Next; 4]).unwrap();
+    let (replies, result) = ask(&[FIRST, FOURTH], &[64, 0, 1], 0, &[Next; 4]).unwrap();
     assert_eq!(replies, [Member(5), Member(6), Member(8), Finished]);
-    assert_eq!(ran.moves, 12);
-    assert_eq!(ran.places, places(&[0, 7, 5]));
-    assert_eq!(ran.bookmark, TOP);
+    assert_eq!(result.moves, 12);
+    assert_eq!(result.places, places(&[0, 7, 5]));
+    assert_eq!(result.bookmark, TOP);
 }
 
 #[test]
 fn p2_difference_broken_off() {
-    let (replies, ran) = ask(&[FIRST, FOURTH], &[64, 0, 1], 0, &[Next]).unwrap();
-    assert_eq!((replies, ran.bookmark, ran.moves), (vec![Member(5)], 6, 7));
-    let (replies, ran) = ask(&[FIRST, FOURTH], &[64, 0, 1], 6, &[Next; 3]).unwrap();
-    assert_eq!((replies, ran.bookmark), (vec![Member(6), Member(8), Finished], TOP));
+    let (replies, result) = ask(&[FIRST, FOURTH], &[64, 0, 1], 0, &[Next]).unwrap();
+    assert_eq!((replies, result.bookmark, result.moves), (vec![Member(5)], 6, 7));
+    let (replies, result) = ask(&[FIRST, FOURTH], &[64, 0, 1], 6, &[Next; 3]).unwrap();
+    assert_eq!((replies, result.bookmark), (vec![Member(6), Member(8), Finished], TOP));
 }
 
 #[test]
@@ -32,10 +32,10 @@ fn p3_union() {
 #[test]
 fn p4_intersection() {
     let all = [FIRST, SECOND, THIRD, FOURTH];
-    let (replies, ran) = ask(&all, &[196, 0, 1, 2, 3], 0, &[Next]).unwrap();
-    assert_eq!((replies, ran.moves), (vec![Member(2)], 5));
-    let (replies, ran) = ask(&all, &[196, 0, 1, 2, 3], 0, &[Next; 2]).unwrap();
-    assert_eq!((replies, ran.moves), (vec![Member(2), Finished], 13));
+    let (replies, result) = ask(&all, &[196, 0, 1, 2, 3], 0, &[Next]).unwrap();
+    assert_eq!((replies, result.moves), (vec![Member(2)], 5));
+    let (replies, result) = ask(&all, &[196, 0, 1, 2, 3], 0, &[Next; 2]).unwrap();
+    assert_eq!((replies, result.moves), (vec![Member(2), Finished], 13));
 }
 
 #[test]
@@ -52,8 +52,8 @@ fn p6_checks() {
 
 #[test]
 fn p7_the_greatest_number() {
-    let (replies, ran) = ask(&[&[u32::MAX]], &[0], 0, &[Next; 2]).unwrap();
-    assert_eq!((replies, ran.bookmark), (vec![Member(u32::MAX), Finished], TOP));
+    let (replies, result) = ask(&[&[u32::MAX]], &[0], 0, &[Next; 2]).unwrap();
+    assert_eq!((replies, result.bookmark), (vec![Member(u32::MAX), Finished], TOP));
 }
 
 #[test]
@@ -73,44 +73,44 @@ fn p8_packed_expressions() {
 fn p9_deliveries() {
     let three = [0x04, 0x00, 0x0C, 0x00, 0x00, 0x00, 0x08, 0x08];
     let (mut numbers, mut ends) = ([77; 4], [77; 2]);
-    let delivered = decode_delivery(&three, &mut numbers, &mut ends);
-    assert_eq!(delivered, Ok(Delivered { lists: 1, numbers: 3 }));
+    let result = decode_delivery(&three, &mut numbers, &mut ends);
+    assert_eq!(result, Ok(DecodeResult { lists: 1, numbers: 3 }));
     assert_eq!((numbers, ends), ([2, 3, 5, 77], [3, 77]));
     let mut back = [77; 9];
     assert_eq!(encode_delivery(&[2, 3, 5], &[3], &mut back), Ok(8));
     assert_eq!((&back[..8], back[8]), (&three[..], 77));
 
     let (mut numbers, mut ends) = ([77], [77]);
-    let delivered = decode_delivery(&[0x04, 0x00, 0x00], &mut numbers, &mut ends);
-    assert_eq!(delivered, Ok(Delivered { lists: 1, numbers: 0 }));
+    let result = decode_delivery(&[0x04, 0x00, 0x00], &mut numbers, &mut ends);
+    assert_eq!(result, Ok(DecodeResult { lists: 1, numbers: 0 }));
     assert_eq!((numbers, ends), ([77], [0]));
 }
 
 #[test]
 fn at_or_past_and_past() {
     let calls = [AtOrPast(2), AtOrPast(2), Past(6), Past(1), AtOrPast(10)];
-    let (replies, ran) = ask(&[FIRST], &[0], 0, &calls).unwrap();
+    let (replies, result) = ask(&[FIRST], &[0], 0, &calls).unwrap();
     assert_eq!(replies, [Member(2), Member(5), Member(8), Member(9), Finished]);
-    assert_eq!((ran.moves, ran.bookmark), (7, TOP));
+    assert_eq!((result.moves, result.bookmark), (7, TOP));
 }
 
 #[test]
 fn an_unknown_code_changes_nothing() {
     let (numbers, ends) = lent(&[FIRST]);
     let mut replies = [77; 4];
-    let ran = run(&numbers, &ends, &packed(&[0]), 1, &[4, 0, 255], &[9, 9, 9], &mut replies).unwrap();
+    let result = run(&numbers, &ends, &packed(&[0]), 1, &[4, 0, 255], &[9, 9, 9], &mut replies).unwrap();
     assert_eq!(replies[3], 77);
     assert_eq!(
         replies[..3].iter().map(|reply| Reply::from_row(*reply)).collect::<Vec<_>>(),
         [Some(Unknown), Some(Member(1)), Some(Unknown)]
     );
-    assert_eq!((ran.moves, ran.bookmark), (1, 2));
+    assert_eq!((result.moves, result.bookmark), (1, 2));
 }
 
 #[test]
 fn a_run_of_no_calls() {
-    let (replies, ran) = ask(&[FIRST], &[0], TOP, &[]).unwrap();
-    assert_eq!((replies, ran.moves, ran.bookmark), (vec![], 0, TOP));
+    let (replies, result) = ask(&[FIRST], &[0], TOP, &[]).unwrap();
+    assert_eq!((replies, result.moves, result.bookmark), (vec![], 0, TOP));
 }
 
 #[test]

@@ -18,31 +18,31 @@ fn wide_row(last: u8) -> Vec<u8> {
 
 fn unpack(bytes: &[u8], lists: usize) -> Result<usize, Refusal> {
     let mut row = [77; 48];
-    let written = unpack_expression(bytes, lists, &mut row);
-    assert!(written.is_ok() || row == [77; 48], "a refusal wrote");
-    written
+    let result = unpack_expression(bytes, lists, &mut row);
+    assert!(result.is_ok() || row == [77; 48], "a refusal wrote");
+    result
 }
 
 fn pack(row: &[u8], lists: usize) -> Result<usize, Refusal> {
     let mut bytes = [77; 48];
-    let written = pack_expression(row, lists, &mut bytes);
-    assert!(written.is_ok() || bytes == [77; 48], "a refusal wrote");
-    written
+    let result = pack_expression(row, lists, &mut bytes);
+    assert!(result.is_ok() || bytes == [77; 48], "a refusal wrote");
+    result
 }
 
 fn decode(bytes: &[u8], room: usize, lists: usize) -> Option<Refusal> {
     let (mut numbers, mut ends) = (vec![77; room], vec![77; lists]);
-    let delivered = decode_delivery(bytes, &mut numbers, &mut ends);
+    let result = decode_delivery(bytes, &mut numbers, &mut ends);
     let same = numbers == vec![77; room] && ends == vec![77; lists];
-    assert!(delivered.is_ok() || same, "a refusal wrote");
-    delivered.err()
+    assert!(result.is_ok() || same, "a refusal wrote");
+    result.err()
 }
 
 fn encode(numbers: &[u32], ends: &[u32], room: usize) -> Result<usize, Refusal> {
     let mut bytes = vec![77; room];
-    let written = encode_delivery(numbers, ends, &mut bytes);
-    assert!(written.is_ok() || bytes == vec![77; room], "a refusal wrote");
-    written
+    let result = encode_delivery(numbers, ends, &mut bytes);
+    assert!(result.is_ok() || bytes == vec![77; room], "a refusal wrote");
+    result
 }
 
 #[test]
@@ -133,7 +133,7 @@ fn runs() {
     let (numbers, ends) = lent(&[FIRST]);
     for (codes, arguments, room) in [(1, 0, 9), (0, 1, 9), (2, 2, 1)] {
         let mut replies = vec![77; room];
-        let ran = run(
+        let result = run(
             &numbers,
             &ends,
             &packed(&[0]),
@@ -142,7 +142,7 @@ fn runs() {
             &vec![0; arguments],
             &mut replies,
         );
-        assert_eq!(ran.err(), Some(Refusal::LengthsDiffer));
+        assert_eq!(result.err(), Some(Refusal::LengthsDiffer));
         assert_eq!(replies, vec![77; room]);
     }
 }

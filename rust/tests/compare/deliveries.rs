@@ -61,7 +61,7 @@ fn compare_delivery(case: &Delivery, expected: &Result<(Vec<u32>, Vec<u32>), u32
     let (mut numbers_lent, mut ends_lent) = (Lent::new(case.numbers_room), Lent::new(case.ends_room));
     let result = zwailmoor::decode_delivery(&case.bytes, numbers_lent.row(), ends_lent.row());
     let parts = result
-        .map(|delivered| (delivered.lists, delivered.numbers))
+        .map(|result| (result.lists, result.numbers))
         .map_err(|refusal| refusal.number());
     assert_eq!(
         parts,

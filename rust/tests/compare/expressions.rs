@@ -35,7 +35,7 @@ fn compare(case: &Case, expected: &Result<Vec<u8>, u32>, raw: Raw, wrapper: Wrap
     lent.assert_holds(written, "the bytes by the wrapper", case);
 }
 
-type Raw = fn(&[u8], usize, &mut [u8]) -> ffi::Written;
+type Raw = fn(&[u8], usize, &mut [u8]) -> ffi::WriteResult;
 type Wrapper = fn(&[u8], usize, &mut [u8]) -> Result<usize, zwailmoor::Refusal>;
 
 /// A case for one of the two directions: the packed form or the row form of the same expressions.

@@ -1,6 +1,6 @@
 //! Runs, whole and broken off, and the iterator over pages.
 
-use crate::evaluator::{self, Ran, TOP};
+use crate::evaluator::{self, RunResult, TOP};
 use crate::ffi;
 use crate::inputs::{damage, expression_row, lent, lent_lists, long_list, longest, number, packed_anyway, some_lists};
 use crate::random::{cases, seed, Random};
@@ -103,7 +103,7 @@ fn case(number: u64) -> Run {
 }
 
 impl Run {
-    fn expected(&self) -> Result<Ran, u32> {
+    fn expected(&self) -> Result<RunResult, u32> {
         evaluator::run(
             &self.numbers,
             &self.ends,
@@ -116,20 +116,20 @@ impl Run {
     }
 
     /// Every part of what both interfaces send back, and the whole row of replies.
-    fn compare(&self, expected: &Result<Ran, u32>) {
-        let refused = Ran {
+    fn compare(&self, expected: &Result<RunResult, u32>) {
+        let refused = RunResult {
             replies: vec![],
             moves: 0,
             places: [0; 48],
             bookmark: 0,
         };
         let number = expected.as_ref().err().copied().unwrap_or(0);
-        let ran = expected.as_ref().unwrap_or(&refused);
-        self.compare_raw(number, ran);
-        self.compare_wrapper(number, ran);
+        let expected = expected.as_ref().unwrap_or(&refused);
+        self.compare_raw(number, expected);
+        self.compare_wrapper(number, expected);
     }
 
-    fn compare_raw(&self, number: u32, ran: &Ran) {
+    fn compare_raw(&self, number: u32, expected: &RunResult) {
         let Run {
             numbers,
             ends,
@@ -141,17 +141,17 @@ impl Run {
         } = self;
         let mut lent = Lent::new(self.room);
         let sent = ffi::run(numbers, ends, packed, *bookmark, codes, arguments, lent.row());
-        let parts = ffi::Ran {
+        let parts = ffi::RunResult {
             number,
-            moves: ran.moves,
-            places: ran.places,
-            bookmark: ran.bookmark,
+            moves: expected.moves,
+            places: expected.places,
+            bookmark: expected.bookmark,
         };
         assert_eq!(sent, parts, "{self:#?}");
-        lent.assert_holds(&ran.replies, "the replies", self);
+        lent.assert_holds(&expected.replies, "the replies", self);
     }
 
-    fn compare_wrapper(&self, number: u32, ran: &Ran) {
+    fn compare_wrapper(&self, number: u32, expected: &RunResult) {
         let Run {
             numbers,
             ends,
@@ -163,18 +163,18 @@ impl Run {
         } = self;
         let mut lent = Lent::new(self.room);
         let result = zwailmoor::run(numbers, ends, packed, *bookmark, codes, arguments, lent.row());
-        let parts = zwailmoor::Ran {
-            moves: ran.moves,
-            places: ran.places,
-            bookmark: ran.bookmark,
+        let parts = zwailmoor::RunResult {
+            moves: expected.moves,
+            places: expected.places,
+            bookmark: expected.bookmark,
         };
         let parts = if number == 0 { Ok(parts) } else { Err(number) };
         assert_eq!(result.map_err(|refusal| refusal.number()), parts, "{self:#?}");
-        lent.assert_holds(&ran.replies, "the replies by the wrapper", self);
+        lent.assert_holds(&expected.replies, "the replies by the wrapper", self);
     }
 
     /// Broken off before call k and taken up from the bookmark: the same replies and the same last bookmark.
-    fn compare_broken_off(&self, whole: &Ran, k: usize) {
+    fn compare_broken_off(&self, whole: &RunResult, k: usize) {
         let part = |bookmark, calls: std::ops::Range<usize>| {
             let part = Run {
                 bookmark,
@@ -212,16 +212,16 @@ impl Run {
 }
 
 /// What a good many cases must have had, all accepted.
-fn edges(tally: &mut Tally, case: &Run, ran: &Ran) {
+fn edges(tally: &mut Tally, case: &Run, result: &RunResult) {
     let tree = evaluator::expression::read_packed(&case.packed, case.ends.len()).expect("an accepted expression");
     tally.edge("32 lists", case.ends.len() == 32);
     tally.edge("a list of 65,535", longest(&case.ends) == 65_535);
     tally.edge("bookmark at the top", case.bookmark == TOP);
     tally.edge("48 nodes", tree.row().len() == 48);
     tally.edge("depth 12", tree.depth() == 12);
-    tally.edge("4,294,967,295 drawn", ran.replies.contains(&(TOP - 1)));
+    tally.edge("4,294,967,295 drawn", result.replies.contains(&(TOP - 1)));
     for (name, reply) in [("no", TOP), ("yes", TOP + 1), ("finished", TOP + 2), ("unknown", TOP + 3)] {
-        tally.edge(name, ran.replies.contains(&reply));
+        tally.edge(name, result.replies.contains(&reply));
     }
 }
 

@@ -19,7 +19,7 @@ pub type Refused = u32;
 
 /// All that a run writes and hands back.
 #[derive(Debug, Clone, PartialEq, Eq)]
-pub struct Ran {
+pub struct RunResult {
     pub replies: Vec<u64>,
     pub moves: u32,
     pub places: [u16; 48],
@@ -55,7 +55,7 @@ pub fn run(
     codes: &[u8],
     arguments: &[u32],
     room: usize,
-) -> Result<Ran, Refused> {
+) -> Result<RunResult, Refused> {
     let source = source(numbers, ends, packed, bookmark)?;
     if codes.len() != arguments.len() || room < codes.len() {
         return Err(13);
@@ -64,7 +64,7 @@ pub fn run(
     let (replies, last) = machine::replies(&source.set, bookmark, &calls);
     let (places, floor) = steps::places(&source.tree, &source.lists, bookmark, &calls);
     assert_eq!(floor, last, "the steps and the machine of this evaluator differ");
-    Ok(Ran {
+    Ok(RunResult {
         replies,
         moves: places.iter().map(|place| u32::from(*place)).sum(),
         places,
