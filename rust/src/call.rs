@@ -1,7 +1,10 @@
 //! What is asked in a run, and what is replied.
 
 /// One call of a run. In the rows of a run it is a code and an argument.
+///
+/// More may come, so match with a wildcard arm.
 #[derive(Debug, Clone, Copy, PartialEq, Eq, Hash)]
+#[non_exhaustive]
 pub enum Call {
     /// The least member not below the floor.
     Next,
@@ -34,7 +37,26 @@ impl Call {
 }
 
 /// What one call of a run is replied.
+///
+/// More may come, so match with a wildcard arm:
+///
+/// ```
+/// use zwailmoor::{run, Call, Reply, RunResult};
+///
+/// let (codes, arguments) = ([Call::Next, Call::Check(8)].map(Call::code), [0, 8]);
+/// let mut replies = [0; 2];
+/// let RunResult { bookmark, .. } = run(&[5, 8], &[2], &[0x00], 0, &codes, &arguments, &mut replies)?;
+///
+/// let words = replies.map(|element| match Reply::from_row(element) {
+///     Some(Reply::Member(number)) => format!("member {number}"),
+///     Some(Reply::Yes) => "yes".to_string(),
+///     other => format!("{other:?}"),
+/// });
+/// assert_eq!((words, bookmark), (["member 5".to_string(), "yes".to_string()], 8));
+/// # Ok::<(), zwailmoor::Refusal>(())
+/// ```
 #[derive(Debug, Clone, Copy, PartialEq, Eq, Hash)]
+#[non_exhaustive]
 pub enum Reply {
     /// The member drawn.
     Member(u32),

@@ -4,7 +4,10 @@ use crate::ffi;
 use crate::Refusal;
 
 /// What a delivery held: so many lists, and as many ends; so many numbers in all.
+///
+/// More fields may come, so outside this package it is taken apart with `..`.
 #[derive(Debug, Clone, Copy, PartialEq, Eq)]
+#[non_exhaustive]
 pub struct DecodeResult {
     /// How many lists, and so how many ends were written.
     pub lists: usize,
@@ -13,7 +16,10 @@ pub struct DecodeResult {
 }
 
 /// What a run hands back beside the replies.
+///
+/// More fields may come, so outside this package it is taken apart with `..`.
 #[derive(Debug, Clone, Copy, PartialEq, Eq)]
+#[non_exhaustive]
 pub struct RunResult {
     /// How many moves the readers made in all: the sum of the places.
     pub moves: u32,
@@ -23,8 +29,11 @@ pub struct RunResult {
     pub bookmark: u64,
 }
 
+// A result of the C calls is taken apart without `..`, so that no part which comes to it is left behind.
+
 fn count(result: ffi::WriteResult) -> Result<usize, Refusal> {
-    Refusal::test(result.number).map(|()| result.count)
+    let ffi::WriteResult { number, count } = result;
+    Refusal::test(number).map(|()| count)
 }
 
 /// Writes a packed expression over so many lists in its row form, one byte a node, and hands back how many nodes.
@@ -54,11 +63,8 @@ pub fn pack_expression(row: &[u8], lists: usize, packed: &mut [u8]) -> Result<us
 /// 1 wherever the bits run out; 7; 6 for the ends; then for each list 6 for the numbers, 8, 9; at the end 5. Both rows are then as
 /// they were.
 pub fn decode_delivery(delivery: &[u8], numbers: &mut [u32], ends: &mut [u32]) -> Result<DecodeResult, Refusal> {
-    let result = ffi::decode_delivery(delivery, numbers, ends);
-    Refusal::test(result.number).map(|()| DecodeResult {
-        lists: result.lists,
-        numbers: result.numbers,
-    })
+    let ffi::DecodeResult { number, lists, numbers } = ffi::decode_delivery(delivery, numbers, ends);
+    Refusal::test(number).map(|()| DecodeResult { lists, numbers })
 }
 
 /// Writes lists as a delivery, and hands back how many bytes.
@@ -96,10 +102,11 @@ pub fn run(
     arguments: &[u32],
     replies: &mut [u64],
 ) -> Result<RunResult, Refusal> {
-    let result = ffi::run(numbers, ends, packed, bookmark, codes, arguments, replies);
-    Refusal::test(result.number).map(|()| RunResult {
-        moves: result.moves,
-        places: result.places,
-        bookmark: result.bookmark,
-    })
+    let ffi::RunResult {
+        number,
+        moves,
+        places,
+        bookmark,
+    } = ffi::run(numbers, ends, packed, bookmark, codes, arguments, replies);
+    Refusal::test(number).map(|()| RunResult { moves, places, bookmark })
 }

@@ -6,7 +6,21 @@ use std::fmt;
 /// Why a call refused its input. All lent rows are then as they were.
 ///
 /// Where several reasons apply, the one that is tested first is given; each call says its order.
+///
+/// More may come, so match with a wildcard arm:
+///
+/// ```
+/// use zwailmoor::{unpack_expression, Refusal};
+///
+/// let advice = match unpack_expression(&[0x40, 0x01], 2, &mut [0; 2]) {
+///     Ok(nodes) => format!("{nodes} nodes"),
+///     Err(Refusal::RowTooShort) => "lend a longer row".to_string(),
+///     Err(refusal) => format!("refused {}: {refusal}", refusal.number()),
+/// };
+/// assert_eq!(advice, "lend a longer row");
+/// ```
 #[derive(Debug, Clone, Copy, PartialEq, Eq, Hash)]
+#[non_exhaustive]
 #[repr(u32)]
 pub enum Refusal {
     /// The bytes or the row end too early.
@@ -41,8 +55,21 @@ pub enum Refusal {
 
 use Refusal::*;
 
+/// All variants of an enum, in an array. Its match has no wildcard arm, so that it does not compile where one is left out.
+macro_rules! every {
+    ($enum:ident: $($variant:ident $(($argument:expr))?),* $(,)?) => {{
+        const _: fn($enum) = |value| match value {
+            $($enum::$variant { .. } => (),)*
+        };
+        [$($enum::$variant $(($argument))?),*]
+    }};
+}
+#[cfg(test)]
+pub(crate) use every;
+
 impl Refusal {
-    const ALL: [Refusal; 14] = [
+    /// Every refusal, by number.
+    pub const ALL: &'static [Refusal] = &every![Refusal:
         EndsEarly,
         TooManyNodes,
         TooDeep,
@@ -59,7 +86,7 @@ impl Refusal {
         UnknownByte,
     ];
 
-    /// The refusal's number, 1 to 14, as it is in C.
+    /// The refusal's number, as it is in C.
     pub fn number(self) -> u32 {
         self as u32
     }
@@ -72,8 +99,8 @@ impl Refusal {
         if number == 0 {
             return Ok(());
         }
-        match Self::ALL.into_iter().find(|refusal| refusal.number() == number) {
-            Some(refusal) => Err(refusal),
+        match Self::ALL.iter().find(|refusal| refusal.number() == number) {
+            Some(refusal) => Err(*refusal),
             None => panic!("the engine handed back {number}, which stands for nothing: the linked archive is another"),
         }
     }

@@ -1,5 +1,7 @@
 //! The C side: the header says the same numbers as this package, and the example prints what stands beside it.
 
+use std::collections::BTreeMap;
+use std::fmt::Debug;
 use std::fs;
 use std::path::{Path, PathBuf};
 use std::process::{Command, Output};
@@ -7,41 +9,33 @@ use std::sync::OnceLock;
 
 use zwailmoor::{Call, Refusal, Reply};
 
-const REFUSALS: [Refusal; 14] = [
-    Refusal::EndsEarly,
-    Refusal::TooManyNodes,
-    Refusal::TooDeep,
-    Refusal::NoSuchList,
-    Refusal::LeftOver,
-    Refusal::RowTooShort,
-    Refusal::NumberOfLists,
-    Refusal::GapPassesTop,
-    Refusal::WidthNotLeast,
-    Refusal::BadEnds,
-    Refusal::NotAscending,
-    Refusal::BadBookmark,
-    Refusal::LengthsDiffer,
-    Refusal::UnknownByte,
-];
+const TOP: u64 = 4_294_967_296;
 
 fn root() -> PathBuf {
     Path::new(env!("CARGO_MANIFEST_DIR")).join("..")
 }
 
-/// The value of a constant of the header.
-fn constant(header: &str, name: &str) -> u64 {
-    let start = format!("#define ZWAILMOOR_{name} ");
-    let line = header.lines().find_map(|line| line.strip_prefix(start.as_str()));
-    let line = line.unwrap_or_else(|| panic!("the header has no ZWAILMOOR_{name}"));
-    let value = line.split("/*").next().unwrap_or(line).trim();
-    let digits = value.trim_start_matches("UINT64_C(").trim_end_matches(')');
-    digits.parse().unwrap_or_else(|_| panic!("ZWAILMOOR_{name} is {value}"))
+/// Name and value of every constant of the header; its macros with an argument are called by `round_trip.c`.
+fn header_constants() -> BTreeMap<String, u64> {
+    let header = fs::read_to_string(root().join("include/zwailmoor.h")).unwrap();
+    let lines = header.lines().filter_map(|line| line.strip_prefix("#define ZWAILMOOR_"));
+    let constants = lines
+        .filter_map(|line| line.split_once(' '))
+        .filter(|(name, _)| !name.contains('('));
+    constants.map(|(name, text)| (name.to_string(), value(name, text))).collect()
 }
 
-/// `EndsEarly` as ENDS_EARLY.
-fn c_name(name: &str) -> String {
+fn value(name: &str, text: &str) -> u64 {
+    let text = text.split("/*").next().unwrap_or(text).trim();
+    let digits = text.trim_start_matches("UINT64_C(").trim_end_matches(')');
+    digits.parse().unwrap_or_else(|_| panic!("ZWAILMOOR_{name} is {text}"))
+}
+
+/// `EndsEarly` as ENDS_EARLY, and `AtOrPast(0)` as AT_OR_PAST.
+fn c_name(variant: &dyn Debug) -> String {
+    let variant = format!("{variant:?}");
     let mut c_name = String::new();
-    for letter in name.chars() {
+    for letter in variant.chars().take_while(|letter| letter.is_alphabetic()) {
         if letter.is_uppercase() && !c_name.is_empty() {
             c_name.push('_');
         }
@@ -50,28 +44,26 @@ fn c_name(name: &str) -> String {
     c_name
 }
 
+/// The header has the package's refusals, codes and replies, the paper's limits, and nothing else.
 #[test]
 fn constants() {
-    let header = fs::read_to_string(root().join("include/zwailmoor.h")).unwrap();
-    for refusal in REFUSALS {
-        let value = constant(&header, &c_name(&format!("{refusal:?}")));
-        assert_eq!(value, u64::from(refusal.number()), "{refusal:?}");
-    }
-    for (call, name) in [
-        (Call::Next, "NEXT"),
-        (Call::AtOrPast(0), "AT_OR_PAST"),
-        (Call::Past(0), "PAST"),
-        (Call::Check(0), "CHECK"),
-    ] {
-        assert_eq!(constant(&header, name), u64::from(call.code()), "{name}");
-    }
-    for reply in [Reply::No, Reply::Yes, Reply::Finished, Reply::Unknown] {
-        let value = constant(&header, &c_name(&format!("{reply:?}")));
-        assert_eq!(Reply::from_row(value), Some(reply));
-    }
-    let limits = ["LISTS", "LIST_NUMBERS", "NODES", "DEPTH", "FIRST_BOOKMARK", "TOP_BOOKMARK"];
-    let limits = limits.map(|name| constant(&header, name));
-    assert_eq!(limits, [32, 65_535, 48, 12, 0, 4_294_967_296]);
+    let others = [
+        ("LISTS", 32),
+        ("LIST_NUMBERS", 65_535),
+        ("NODES", 48),
+        ("DEPTH", 12),
+        ("FIRST_BOOKMARK", 0),
+        ("TOP_BOOKMARK", TOP),
+        ("ACCEPTED", 0),
+        ("DIFFERENCE", 64),
+    ];
+    let mut expected: BTreeMap<String, u64> = others.map(|(name, value)| (name.to_string(), value)).into();
+    expected.extend(Refusal::ALL.iter().map(|refusal| (c_name(refusal), refusal.number().into())));
+    let calls = [Call::Next, Call::AtOrPast(0), Call::Past(0), Call::Check(0)];
+    expected.extend(calls.map(|call| (c_name(&call), call.code().into())));
+    let replies = (TOP..TOP + 99).map_while(|element| Reply::from_row(element).map(|reply| (c_name(&reply), element)));
+    expected.extend(replies);
+    assert_eq!(header_constants(), expected);
 }
 
 /// The example's program, built once for all tests here.

@@ -1,17 +1,24 @@
 //! P1 to P9, and the edges beside them.
 
 use super::{ask, lent, packed, places, FIRST, FOURTH, SECOND, THIRD, TOP};
+use crate::refusal::every;
 use crate::Call::{AtOrPast, Check, Next, Past};
 use crate::Reply::{Finished, Member, No, Unknown, Yes};
-use crate::{decode_delivery, encode_delivery, list_part, pack_expression, run, unpack_expression, DecodeResult, Reply};
+use crate::{
+    decode_delivery, encode_delivery, list_part, pack_expression, run, unpack_expression, Call, DecodeResult, Reply, RunResult,
+};
 
 #[test]
 fn p1_difference() {
     let (replies, result) = ask(&[FIRST, FOURTH], &[64, 0, 1], 0, &[Next; 4]).unwrap();
     assert_eq!(replies, [Member(5), Member(6), Member(8), Finished]);
-    assert_eq!(result.moves, 12);
-    assert_eq!(result.places, places(&[0, 7, 5]));
-    assert_eq!(result.bookmark, TOP);
+    // Whole, so that a field which comes to it is not left out.
+    let expected = RunResult {
+        moves: 12,
+        places: places(&[0, 7, 5]),
+        bookmark: TOP,
+    };
+    assert_eq!(result, expected);
 }
 
 #[test]
@@ -134,24 +141,18 @@ fn parts_of_the_lent_numbers_themselves() {
 
 #[test]
 fn replies_of_a_row() {
-    let expected = [
-        (0, Some(Member(0))),
-        (TOP - 1, Some(Member(u32::MAX))),
-        (TOP, Some(No)),
-        (TOP + 1, Some(Yes)),
-        (TOP + 2, Some(Finished)),
-        (TOP + 3, Some(Unknown)),
-        (TOP + 4, None),
-        (u64::MAX, None),
-    ];
-    for (element, reply) in expected {
-        assert_eq!(Reply::from_row(element), reply);
-    }
+    let from_the_last_member: Vec<Reply> = (TOP - 1..TOP + 99).map_while(Reply::from_row).collect();
+    assert_eq!(
+        from_the_last_member,
+        every![Reply: Member(u32::MAX), No, Yes, Finished, Unknown]
+    );
+    assert_eq!(Reply::from_row(0), Some(Member(0)));
+    assert_eq!(Reply::from_row(u64::MAX), None);
 }
 
 #[test]
 fn codes_of_calls() {
-    let calls = [Next, AtOrPast(7), Past(8), Check(9)];
+    let calls = every![Call: Next, AtOrPast(7), Past(8), Check(9)];
     assert_eq!(
         calls.map(|call| (call.code(), call.argument())),
         [(0, 0), (1, 7), (2, 8), (3, 9)]

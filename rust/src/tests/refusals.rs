@@ -149,10 +149,10 @@ fn runs() {
 
 #[test]
 fn numbers_and_sentences() {
+    assert!(Refusal::ALL.iter().map(|refusal| refusal.number()).eq(1..=14));
     let mut sentences = std::collections::HashSet::new();
-    for number in 1..=14 {
-        let refusal = Refusal::test(number).unwrap_err();
-        assert_eq!(refusal.number(), number);
+    for refusal in Refusal::ALL {
+        assert_eq!(Refusal::test(refusal.number()), Err(*refusal));
         assert!(sentences.insert(refusal.to_string()), "{refusal} is said twice");
     }
     assert_eq!(Refusal::test(0), Ok(()));

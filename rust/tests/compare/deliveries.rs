@@ -7,6 +7,10 @@ use crate::random::{cases, seed, Random};
 use crate::rows::Lent;
 use crate::tally::Tally;
 
+/// The refusals that each call can give.
+pub const DECODE_REFUSALS: &[usize] = &[1, 5, 6, 7, 8, 9];
+pub const ENCODE_REFUSALS: &[usize] = &[6, 7, 10, 11];
+
 // The case's number is only printed.
 #[allow(dead_code)]
 #[derive(Debug)]
@@ -96,7 +100,7 @@ fn decode_delivery() {
         }
         tally.count(&expected);
     }
-    tally.close("decode_delivery", seed(), &[1, 5, 6, 7, 8, 9]);
+    tally.close("decode_delivery", seed(), DECODE_REFUSALS);
 }
 
 // The case's number is only printed.
@@ -184,7 +188,7 @@ fn encode_delivery() {
         }
         tally.count(&expected);
     }
-    tally.close("encode_delivery", seed(), &[6, 7, 10, 11]);
+    tally.close("encode_delivery", seed(), ENCODE_REFUSALS);
 }
 
 #[test]

@@ -7,6 +7,10 @@ use crate::random::{cases, seed, Random};
 use crate::rows::Lent;
 use crate::tally::Tally;
 
+/// The refusals that each call can give.
+pub const UNPACK_REFUSALS: &[usize] = &[1, 2, 3, 4, 5, 6, 7];
+pub const PACK_REFUSALS: &[usize] = &[1, 2, 3, 4, 5, 6, 7, 14];
+
 // The case's number is only printed.
 #[allow(dead_code)]
 #[derive(Debug)]
@@ -93,7 +97,7 @@ fn unpack_expression() {
         }
         tally.count(&expected);
     }
-    tally.close("unpack_expression", seed(), &[1, 2, 3, 4, 5, 6, 7]);
+    tally.close("unpack_expression", seed(), UNPACK_REFUSALS);
 }
 
 #[test]
@@ -115,5 +119,5 @@ fn pack_expression() {
         }
         tally.count(&expected);
     }
-    tally.close("pack_expression", seed(), &[1, 2, 3, 4, 5, 6, 7, 14]);
+    tally.close("pack_expression", seed(), PACK_REFUSALS);
 }

@@ -15,3 +15,20 @@ mod tally;
 // The C calls themselves: the wrapper does not show what a refusal leaves in the other parts of the result.
 #[path = "../../src/ffi.rs"]
 mod ffi;
+
+/// The package has no refusal that no call here has to meet.
+#[test]
+fn every_refusal_belongs_to_a_call() {
+    let calls = [
+        expressions::UNPACK_REFUSALS,
+        expressions::PACK_REFUSALS,
+        deliveries::DECODE_REFUSALS,
+        deliveries::ENCODE_REFUSALS,
+        runs::REFUSALS,
+    ];
+    let mut met = calls.concat();
+    met.sort();
+    met.dedup();
+    let all = zwailmoor::Refusal::ALL.iter().map(|refusal| refusal.number() as usize);
+    assert_eq!(met, all.collect::<Vec<_>>());
+}

@@ -6,6 +6,13 @@ use crate::inputs::{damage, expression_row, lent, lent_lists, long_list, longest
 use crate::random::{cases, seed, Random};
 use crate::rows::Lent;
 use crate::tally::Tally;
+use zwailmoor::Reply;
+
+/// The refusals that a run can give.
+pub const REFUSALS: &[usize] = &[1, 2, 3, 4, 5, 7, 10, 11, 12, 13];
+
+/// What is replied where it is no member.
+const REPLIES: [(&str, u64); 4] = [("no", TOP), ("yes", TOP + 1), ("finished", TOP + 2), ("unknown", TOP + 3)];
 
 // The case's number is only printed.
 #[allow(dead_code)]
@@ -163,13 +170,12 @@ impl Run {
         } = self;
         let mut lent = Lent::new(self.room);
         let result = zwailmoor::run(numbers, ends, packed, *bookmark, codes, arguments, lent.row());
-        let parts = zwailmoor::RunResult {
-            moves: expected.moves,
-            places: expected.places,
-            bookmark: expected.bookmark,
-        };
+        let sent = result
+            .map(|result| (result.moves, result.places, result.bookmark))
+            .map_err(|refusal| refusal.number());
+        let parts = (expected.moves, expected.places, expected.bookmark);
         let parts = if number == 0 { Ok(parts) } else { Err(number) };
-        assert_eq!(result.map_err(|refusal| refusal.number()), parts, "{self:#?}");
+        assert_eq!(sent, parts, "{self:#?}");
         lent.assert_holds(&expected.replies, "the replies by the wrapper", self);
     }
 
@@ -220,9 +226,17 @@ fn edges(tally: &mut Tally, case: &Run, result: &RunResult) {
     tally.edge("48 nodes", tree.row().len() == 48);
     tally.edge("depth 12", tree.depth() == 12);
     tally.edge("4,294,967,295 drawn", result.replies.contains(&(TOP - 1)));
-    for (name, reply) in [("no", TOP), ("yes", TOP + 1), ("finished", TOP + 2), ("unknown", TOP + 3)] {
+    for (name, reply) in REPLIES {
         tally.edge(name, result.replies.contains(&reply));
     }
+}
+
+/// The package has no reply that the runs here need not meet.
+#[test]
+fn every_reply_is_an_edge() {
+    let replies = (TOP..TOP + 99).map_while(Reply::from_row);
+    let names = replies.map(|reply| format!("{reply:?}").to_lowercase());
+    assert_eq!(names.collect::<Vec<_>>(), REPLIES.map(|(name, _)| name));
 }
 
 #[test]
@@ -244,5 +258,5 @@ fn run() {
         tally.edge("also drawn by the iterator", iterated);
         tally.count(&expected);
     }
-    tally.close("run", seed(), &[1, 2, 3, 4, 5, 7, 10, 11, 12, 13]);
+    tally.close("run", seed(), REFUSALS);
 }
