@@ -5,8 +5,10 @@ use crate::drawing::Drawn;
 use crate::table::Table;
 use crate::timing::{Ratio, Results};
 
-/// At most so many times as long as the same steps by hand.
-const SAME_STEPS: f64 = 1.5;
+/// Drawing takes at most so many times as long as the same steps by hand, the whole run and without its tests.
+const DRAWING_MARK: f64 = 1.70;
+/// The same of checks, the whole run.
+const CHECKING_MARK: f64 = 1.80;
 /// MB of the numbers row a second, at least.
 const MEGABYTES: f64 = 100.0;
 
@@ -18,8 +20,8 @@ fn word(reached: bool) -> &'static str {
     }
 }
 
-/// Reached where both ratios are: one lucky sample is not enough.
-fn judged(ratio: Option<Ratio>, holds: fn(f64) -> bool) -> String {
+/// Reached where both ratios are, else missed: one lucky sample is not enough.
+fn judged(ratio: Option<Ratio>, holds: impl Fn(f64) -> bool) -> String {
     ratio.map_or("not installed".into(), |r| {
         format!("{:.2} ({:.2}) {}", r.best, r.rounds, word(holds(r.best) && holds(r.rounds)))
     })
@@ -32,14 +34,18 @@ fn waited(results: &Results) -> String {
 }
 
 /// Engine / same steps.
-fn against_same(ratio: Option<Ratio>) -> String {
-    judged(ratio, |r| r <= SAME_STEPS)
+fn against_same(ratio: Option<Ratio>, mark: f64) -> String {
+    judged(ratio, |r| r <= mark)
 }
 
 /// Engine / peer, here the sum of some contenders: reached where the engine is ahead.
 fn against(results: &Results, peer: &[&str]) -> String {
     let below: Vec<(f64, &str)> = peer.iter().map(|&name| (1.0, name)).collect();
     judged(results.ratio(&[(1.0, "engine")], &below), |r| r < 1.0)
+}
+
+fn title(what: &str, mark: f64) -> String {
+    format!("Verdict: {what} (same steps: at most {mark:.2}; the others: below 1)")
 }
 
 fn print_drawing(drawn: &[Drawn]) {
@@ -56,21 +62,21 @@ fn print_drawing(drawn: &[Drawn]) {
         let [whole, alone] = d.ratios();
         table.row(vec![
             d.case.name.clone(),
-            against_same(whole),
-            against_same(alone),
+            against_same(whole, DRAWING_MARK),
+            against_same(alone, DRAWING_MARK),
             against(&d.results, &["BTreeSet"]),
             against(&d.results, &["BTreeSet", "BTreeSet, building"]),
             against(&d.results, &["sqlite3"]),
             waited(&d.results),
         ]);
     }
-    table.print("Verdict: engine / peer (same steps: at most 1.50; the others: below 1)");
+    table.print(&title("engine / peer", DRAWING_MARK));
 }
 
 fn print_checks(checks: &Results) {
     let mut table = Table::new(&["100,000 checks against", "engine / peer"]);
     let same = checks.ratio(&[(1.0, "engine")], &[(1.0, "same steps")]);
-    table.row(vec!["same steps, whole".into(), against_same(same)]);
+    table.row(vec!["same steps, whole".into(), against_same(same, CHECKING_MARK)]);
     for name in [
         "BTreeSet, finished set",
         "BTreeSet, each expression",
@@ -79,7 +85,7 @@ fn print_checks(checks: &Results) {
         table.row(vec![name.into(), against(checks, &[name])]);
     }
     table.row(vec!["waited".into(), waited(checks)]);
-    table.print("Verdict: checks");
+    table.print(&title("checks", CHECKING_MARK));
 }
 
 fn print_speeds(speeds: &[Speed]) {
@@ -88,12 +94,12 @@ fn print_speeds(speeds: &[Speed]) {
         let verdict = word(speed.best() >= MEGABYTES);
         table.row(vec![speed.work.clone(), format!("{:.0} {verdict}", speed.best())]);
     }
-    table.print("Verdict: deliveries (at least 100 MB/s)");
+    table.print(&format!("Verdict: deliveries (at least {MEGABYTES} MB/s)"));
 }
 
 const NOTE: &str = "
 In the verdicts the first figure is the ratio of best times, the one in brackets the median of the ratios within each
-round of samples. \"Reached\" asks for both; where the two stand on both sides of the mark it is too close to tell.
+round of samples. \"Reached\" asks that both keep the mark; anything else is \"missed\".
 \"Waited\" is the share of the time in which other programs had the processor: above a few in 100 the case should be
 timed again on a quieter machine.";
 
