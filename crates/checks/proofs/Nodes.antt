@@ -1,6 +1,6 @@
--- The check of a node is that of a list, of a difference or of member nodes, by the node's kind. Assumes nothing.
+-- The check of a node is that of a list or of member nodes, by the node's kind. Assumes nothing.
 use mathlib.Core.Path.{_≡_, ap, _∙_}
-use mathlib.Core.Bool.{Bool, true, false, not}
+use mathlib.Core.Bool.{Bool, true, false}
 use mathlib.Core.List.{List, []}
 use Prim.Native.Nat.{ℕ, _+_}
 use lib.ListN.{length, getD}
@@ -10,13 +10,13 @@ use Rattle.model.specs.Outcome.{accepted}
 use Rattle.model.specs.Lists.{lists-from}
 use Rattle.model.specs.Expression.{Tree}
 use Rattle.model.specs.Forms.{node-of}
-use Rattle.model.specs.Steps.{Readers, Checked, says, read, is-at, turned, on-yes, check-node}
+use Rattle.model.specs.Steps.{Readers, Checked, read, is-at, check-node}
 use Rattle.expression.specs.Reading.{members}
 use Rattle.reader.specs.Rows.{Ready}
-use Rattle.reader.proofs.Standing.{kind, below, many-below, leaf-is, union-is, intersection-is, root-is}
-use Rattle.reader.proofs.Members.{first-is, below-at, pair}
+use Rattle.reader.proofs.Standing.{kind, below, many-below, leaf-is, difference-is, union-is, intersection-is, root-is}
+use Rattle.reader.proofs.Members.{first-is, below-at}
 use Rattle.checks.specs.Telling.{check-until}
-use Rattle.checks.proofs.Until.{until-operator, Says, Say}
+use Rattle.checks.proofs.Until.{until-operator, until-pair, Says, Say}
 
 -- the node of a union or an intersection of so many
 abbrev pub joins : Bool → ℕ → Node
@@ -27,7 +27,7 @@ many : (b : Bool) (t : Tree) (n : ℕ) → kind t ≡ joins b n → length (belo
 many true t n e = many-below t ∙ ap members e
 many false t n e = many-below t ∙ ap members e
 
-until-below : (b : Bool) (ls : List (List ℕ)) (t : Tree) (n i d : ℕ) (rs : Readers) → kind t ≡ joins b n → check-until b ls (below t) (1 + i) d rs ≡ check-node ls t i d rs
+until-below : (b : Bool) (ls : List (List ℕ)) (t : Tree) (n i d : ℕ) (rs : Readers) → kind t ≡ joins b n → check-until b false ls (below t) (1 + i) d rs ≡ check-node ls t i d rs
 until-below true ls t n i d rs e = let u = union-is t n e in rw (u .is) (until-operator ls true (u .trees) i d rs)
 until-below false ls t n i d rs e = let u = intersection-is t n e in rw (u .is) (until-operator ls false (u .trees) i d rs)
 
@@ -40,20 +40,13 @@ module _ {numbers ends nodes behind : List ℕ} (ready : Ready numbers ends node
     of-list k c e a t s = rw (leaf-is t k (root-is (length ends) nodes t i (Leaf k) s e)) a
 
     pub of-members : (b : Bool) (n : ℕ) (c : Checked) → node-of (getD nodes i 0) ≡ accepted (joins b n)
-        → Say numbers ends nodes d b (i + 1) n rs c → Says numbers ends nodes d i rs c
+        → Say numbers ends nodes d b false (i + 1) n rs c → Says numbers ends nodes d i rs c
     of-members b n c e a t s =
         let k = root-is (length ends) nodes t i (joins b n) s e in
         a (below t) (many b t n k) (below-at ready i t s) ∙ rw (← first-is ready i) (until-below b (lists-from numbers 0 ends) t n i d rs k)
 
-    module _ (e : node-of (getD nodes i 0) ≡ accepted Difference) (y : Bool) (rs₁ : Readers) (a : Says numbers ends nodes d (i + 1) rs (says y rs₁)) where
-      pub of-no : y ≡ false → Says numbers ends nodes d i rs (says false rs₁)
-      unfolding check-node on-yes
-      of-no h t s =
-          let p = pair ready i e t s in
-          rw (p .is, first-is ready i, ← (a (p .first) (p .first-at)), h)
-
-      pub of-yes : (z : Bool) (rs₂ : Readers) → y ≡ true → Says numbers ends nodes d (getD behind (i + 1) 0) rs₁ (says z rs₂) → Says numbers ends nodes d i rs (says (not z) rs₂)
-      unfolding check-node on-yes turned
-      of-yes z rs₂ h second t s =
-          let p = pair ready i e t s in
-          rw (p .is, ← (p .after), first-is ready i, ← (a (p .first) (p .first-at)), h, ← (second (p .second) (p .second-at)))
+    pub of-difference : (c : Checked) → node-of (getD nodes i 0) ≡ accepted Difference → Say numbers ends nodes d false true (i + 1) 2 rs c → Says numbers ends nodes d i rs c
+    of-difference c e a t s =
+        let k = root-is (length ends) nodes t i Difference s e in
+        let p = difference-is t k in
+        a (below t) (many-below t ∙ ap members k) (below-at ready i t s) ∙ rw (← first-is ready i, p .is) (until-pair (lists-from numbers 0 ends) (p .first) (p .second) i d rs)

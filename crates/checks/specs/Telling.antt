@@ -7,19 +7,15 @@ use lib.ListN.{length}
 use Rattle.model.specs.Lists.{lists-from}
 use Rattle.model.specs.Expression.{Tree, size}
 use Rattle.model.specs.Steps as model
-use Rattle.model.specs.Steps.{Check, says, on-yes, on-no, check-node}
+use Rattle.model.specs.Steps.{Check, says, turned, on-yes, on-no, check-node}
 use Rattle.reader.specs.declared.Readers.{Readers}
 use Rattle.reader.specs.Rows.{Stands, Stand-each}
-use Rattle.reader.specs.Sought.{readers, readers-of}
+use Rattle.reader.specs.Sought.{readers-of}
 use Rattle.checks.specs.declared.CheckResult.{CheckResult}
 
 -- yes or no, and the readers
 abbrev pub checked-of : CheckResult → model.Checked
 checked-of c = says (c .yes) (readers-of (c .readers))
-
--- a reply, with the places and moves that a check in lent ones leaves: what a check hands back
-abbrev pub checked : Bool → List ℕ → ℕ → CheckResult
-checked reply places moves = record { readers = readers places moves; yes = reply }
 
 -- the check of the node i for d: `Steps.check-node` of the tree that stands there
 abbrev pub Tells : (numbers ends nodes : List ℕ) → ℕ → ℕ → Readers → CheckResult → Type 0
@@ -30,13 +26,19 @@ abbrev pub unless : Bool → model.Checked → (model.Readers → model.Checked)
 unless true c next = on-no c next
 unless false c next = on-yes c next
 
+-- where replies are turned round, the last one is: there are no trees behind it
+abbrev pub turned-last : Bool → List Tree → model.Checked → model.Checked
+turned-last true [] c = turned c
+turned-last true (t ∷ ts) c = c
+turned-last false ts c = c
+
 -- `Steps.check-union` (until a yes) and `Steps.check-intersection` (until a no) over any number of trees from the node i
--- on: with none left, no one has said so
-unfoldable pub check-until : Bool → List (List ℕ) → List Tree → ℕ → Check
-check-until b ls [] i d rs = says (not b) rs
-check-until b ls (t ∷ ts) i d rs = unless b (check-node ls t i d rs) (check-until b ls ts (i + size t) d)
+-- on: with none left, no one has said so; the two of a difference until a no, with the last reply turned round
+unfoldable pub check-until : Bool → Bool → List (List ℕ) → List Tree → ℕ → Check
+check-until b z ls [] i d rs = says (not b) rs
+check-until b z ls (t ∷ ts) i d rs = unless b (turned-last z ts (check-node ls t i d rs)) (check-until b z ls ts (i + size t) d)
 
 -- the checks of n member nodes from the node i on
-abbrev pub Tells-in : Bool → (numbers ends nodes : List ℕ) → ℕ → ℕ → ℕ → Readers → CheckResult → Type 0
-Tells-in b numbers ends nodes i n d start r = (ts : List Tree) → length ts ≡ n → Stand-each (length ends) nodes ts i
-    → checked-of r ≡ check-until b (lists-from numbers 0 ends) ts i d (readers-of start)
+abbrev pub Tells-in : Bool → Bool → (numbers ends nodes : List ℕ) → ℕ → ℕ → ℕ → Readers → CheckResult → Type 0
+Tells-in b z numbers ends nodes i n d start r = (ts : List Tree) → length ts ≡ n → Stand-each (length ends) nodes ts i
+    → checked-of r ≡ check-until b z (lists-from numbers 0 ends) ts i d (readers-of start)

@@ -1,19 +1,14 @@
-// "To check D": the check of a node and the checks over its member nodes call each other. With every call the remaining nodes
-// fall. A check takes the readers and hands them back by value; inside it all nodes move the readers of that one copy.
+// "To check D": the check of a node and the check over its member nodes call each other. With every call the remaining nodes fall. Every
+// check takes the readers by value and hands them back by value with its reply; a member node that is a list is read in the
+// operator's own copy, as in a seek.
 ghost use mathlib.Core.Path.{_≡_};
-ghost use mathlib.Core.List.{[]};
-ghost use Prim.Native.Nat.{_<_};
-ghost use lib.ListN.{length, getD};
-ghost use Rattle.model.specs.declared.Node.the-variants.{Difference};
-ghost use Rattle.model.specs.Outcome.{accepted};
-ghost use Rattle.model.specs.Lists.{lists-from, lists-of};
-ghost use Rattle.model.specs.Forms.{node-of};
-ghost use Rattle.model.specs.Steps.{read, is-at};
+ghost use lib.ListN.{length};
 ghost use Rattle.reader.specs.Rows.{Standing, Standing-each, Ready};
-ghost use Rattle.reader.specs.Sought.{readers, readers-of, Tallied};
-ghost use Rattle.checks.specs.Telling.{checked, checked-of, Tells, Tells-in};
+ghost use Rattle.reader.specs.Sought.{Tallied};
+ghost use Rattle.checks.specs.Telling.{Tells, Tells-in};
 use expression::Kind;
 use model::Node;
+use reader::Member;
 use reader::Readers;
 
 // What a check hands back: the readers after it, and yes or no.
@@ -22,27 +17,8 @@ pub struct CheckResult {
     pub yes: bool,
 }
 
-// "A reader seeks D, yes if it answers D".
-fn check_list(
-    numbers: &[u32],
-    ends: &[u32],
-    k: usize,
-    node: usize,
-    places: &mut [u16; 48],
-    moves: &mut u32,
-    d: u32,
-) -> bool
-    requires { ⌜ lists-of (now numbers) (now ends) ≡ accepted (lists-from (now numbers) 0 (now ends)) ⌝ }
-    requires { ⌜ (k < length (now ends)) × (node < 48) ⌝ }
-    requires { ⌜ Tallied (readers (now places) (now moves)) ⌝ }
-    ensures { λ r. ⌜ Tallied (readers (now (places .exit)) (now (moves .exit))) ⌝ }
-    ensures { λ r. ⌜ checked-of (checked r (now (places .exit)) (now (moves .exit))) ≡ is-at d (read (getD (lists-from (now (numbers .entry)) 0 (now (ends .entry))) k []) node d (readers-of (readers (now (places .entry)) (now (moves .entry))))) ⌝ }
-{
-    let answer = reader::read_list(numbers, ends, k, node, places, moves, reader::wide(d));
-    answer == reader::wide(d)
-}
-
-// The check of a node.
+// The check of a node: "a reader seeks D, yes if it answers D"; of an operator that over its member nodes. A union checks until a yes, an
+// intersection until a no, and so does a difference, which turns its second's reply round.
 pub fn check(
     numbers: &[u32],
     ends: &[u32],
@@ -58,132 +34,54 @@ pub fn check(
     ensures { λ r. ⌜ Tallied (r .readers) ⌝ }
     ensures { λ r. ⌜ Tells (now (numbers .entry)) (now (ends .entry)) (now (nodes .entry)) node d start r ⌝ }
 {
-    let mut places = start.places;
-    let mut moves = start.moves;
-    let yes = check_node(
+    let kind = expression::node_of(nodes[node]);
+    let Kind::Known(known) = kind else {
+        // never: a tree stands at the node
+        return CheckResult {
+            readers: start,
+            yes: false,
+        };
+    };
+    let mut until = false;
+    let mut turned = false;
+    match known {
+        Node::Leaf(k) => {
+            let to = reader::wide(d);
+            let mut readers = start;
+            let place = readers.places[node];
+            let r = reader::read_list(numbers, ends, expression::wide(k), place, to);
+            readers.places[node] = r.place;
+            readers.moves += r.moves;
+            return CheckResult {
+                readers,
+                yes: r.answer == to,
+            };
+        }
+        Node::Difference => {
+            turned = true;
+        }
+        Node::Union(_) => {
+            until = true;
+        }
+        Node::Intersection(_) => {}
+    }
+    let count = expression::members_of(known);
+    check_members(
         numbers,
         ends,
         nodes,
         behind,
-        node,
-        &mut places,
-        &mut moves,
+        node + 1,
+        count,
+        until,
+        turned,
+        start,
         d,
-    );
-    let readers = Readers { places, moves };
-    CheckResult { readers, yes }
+    )
 }
 
-// The same in lent places and moves, by the node's kind.
-fn check_node(
-    numbers: &[u32],
-    ends: &[u32],
-    nodes: &[u8; 48],
-    behind: &[usize; 48],
-    node: usize,
-    places: &mut [u16; 48],
-    moves: &mut u32,
-    d: u32,
-) -> bool
-    requires { ⌜ Ready (now numbers) (now ends) (now nodes) (now behind) ⌝ }
-    requires { ⌜ Standing (length (now ends)) (now nodes) node ⌝ }
-    requires { ⌜ Tallied (readers (now places) (now moves)) ⌝ }
-    ensures { λ r. ⌜ Tallied (readers (now (places .exit)) (now (moves .exit))) ⌝ }
-    ensures { λ r. ⌜ Tells (now (numbers .entry)) (now (ends .entry)) (now (nodes .entry)) node d (readers (now (places .entry)) (now (moves .entry))) (checked r (now (places .exit)) (now (moves .exit))) ⌝ }
-{
-    let kind = expression::node_of(nodes[node]);
-    let Kind::Known(known) = kind else {
-        // never: a tree stands at the node
-        return false;
-    };
-    match known {
-        Node::Leaf(k) => {
-            let k = expression::wide(k);
-            check_list(numbers, ends, k, node, places, moves, d)
-        }
-        Node::Difference => check_difference(numbers, ends, nodes, behind, node, places, moves, d),
-        Node::Union(n) => check_members(
-            numbers,
-            ends,
-            nodes,
-            behind,
-            node + 1,
-            n,
-            true,
-            places,
-            moves,
-            d,
-        ),
-        Node::Intersection(n) => check_members(
-            numbers,
-            ends,
-            nodes,
-            behind,
-            node + 1,
-            n,
-            false,
-            places,
-            moves,
-            d,
-        ),
-    }
-}
-
-// The check of a member node; a list at once, which spares a call: most are.
-fn check_member(
-    numbers: &[u32],
-    ends: &[u32],
-    nodes: &[u8; 48],
-    behind: &[usize; 48],
-    node: usize,
-    places: &mut [u16; 48],
-    moves: &mut u32,
-    d: u32,
-) -> bool
-    requires { ⌜ Ready (now numbers) (now ends) (now nodes) (now behind) ⌝ }
-    requires { ⌜ Standing (length (now ends)) (now nodes) node ⌝ }
-    requires { ⌜ Tallied (readers (now places) (now moves)) ⌝ }
-    ensures { λ r. ⌜ Tallied (readers (now (places .exit)) (now (moves .exit))) ⌝ }
-    ensures { λ r. ⌜ Tells (now (numbers .entry)) (now (ends .entry)) (now (nodes .entry)) node d (readers (now (places .entry)) (now (moves .entry))) (checked r (now (places .exit)) (now (moves .exit))) ⌝ }
-{
-    let byte = nodes[node];
-    // "0 to 31 a list"
-    if byte < 32 {
-        let k = expression::wide(byte);
-        return check_list(numbers, ends, k, node, places, moves, d);
-    }
-    check_node(numbers, ends, nodes, behind, node, places, moves, d)
-}
-
-// "A difference checks its first, and on yes its second, whose reply it turns round".
-fn check_difference(
-    numbers: &[u32],
-    ends: &[u32],
-    nodes: &[u8; 48],
-    behind: &[usize; 48],
-    node: usize,
-    places: &mut [u16; 48],
-    moves: &mut u32,
-    d: u32,
-) -> bool
-    requires { ⌜ Ready (now numbers) (now ends) (now nodes) (now behind) ⌝ }
-    requires { ⌜ Standing (length (now ends)) (now nodes) node ⌝ }
-    requires { ⌜ node-of (getD (now nodes) node 0) ≡ accepted Difference ⌝ }
-    requires { ⌜ Tallied (readers (now places) (now moves)) ⌝ }
-    ensures { λ r. ⌜ Tallied (readers (now (places .exit)) (now (moves .exit))) ⌝ }
-    ensures { λ r. ⌜ Tells (now (numbers .entry)) (now (ends .entry)) (now (nodes .entry)) node d (readers (now (places .entry)) (now (moves .entry))) (checked r (now (places .exit)) (now (moves .exit))) ⌝ }
-{
-    let first = node + 1;
-    let second = behind[first];
-    let in_first = check_member(numbers, ends, nodes, behind, first, places, moves, d);
-    if !in_first {
-        return false;
-    }
-    let in_second = check_member(numbers, ends, nodes, behind, second, places, moves, d);
-    !in_second
-}
-
-// "A union checks in order until a yes, an intersection until a no": member nodes in order, until one says so.
+// "A union checks in order until a yes, an intersection until a no": member nodes in order, until one says so. "A difference checks its
+// first, and on yes its second, whose reply it turns round": where replies are turned, the last one is.
 fn check_members(
     numbers: &[u32],
     ends: &[u32],
@@ -192,25 +90,55 @@ fn check_members(
     first: usize,
     count: u8,
     until: bool,
-    places: &mut [u16; 48],
-    moves: &mut u32,
+    turned: bool,
+    start: Readers,
     d: u32,
-) -> bool
+) -> CheckResult
     requires { ⌜ Ready (now numbers) (now ends) (now nodes) (now behind) ⌝ }
     requires { ⌜ Standing-each (length (now ends)) (now nodes) first count ⌝ }
-    requires { ⌜ Tallied (readers (now places) (now moves)) ⌝ }
-    ensures { λ r. ⌜ Tallied (readers (now (places .exit)) (now (moves .exit))) ⌝ }
-    ensures { λ r. ⌜ Tells-in until (now (numbers .entry)) (now (ends .entry)) (now (nodes .entry)) first count d (readers (now (places .entry)) (now (moves .entry))) (checked r (now (places .exit)) (now (moves .exit))) ⌝ }
+    requires { ⌜ Tallied start ⌝ }
+    ensures { λ r. ⌜ Tallied (r .readers) ⌝ }
+    ensures { λ r. ⌜ Tells-in until turned (now (numbers .entry)) (now (ends .entry)) (now (nodes .entry)) first count d start r ⌝ }
 {
+    let to = reader::wide(d);
+    let mut readers = start;
+    let mut reply = !until;
     let mut at = first;
     let mut left = count;
     while 0 < left {
-        let yes = check_member(numbers, ends, nodes, behind, at, places, moves, d);
-        if yes == until {
-            return yes;
+        let mut yes = false;
+        let place = readers.places[at];
+        let member = reader::read_member(numbers, ends, nodes[at], place, to);
+        match member {
+            Member::Still(answer) => {
+                yes = answer == to;
+            }
+            Member::Moved(r) => {
+                readers.places[at] = r.place;
+                readers.moves += r.moves;
+                yes = r.answer == to;
+            }
+            Member::Operator => {
+                let s = check(numbers, ends, nodes, behind, at, readers, d);
+                readers = s.readers;
+                yes = s.yes;
+            }
         }
-        at = behind[at];
-        left -= 1;
+        if turned {
+            if left == 1 {
+                yes = !yes;
+            }
+        }
+        if yes == until {
+            reply = until;
+            left = 0;
+        } else {
+            at = behind[at];
+            left -= 1;
+        }
     }
-    !until
+    CheckResult {
+        readers,
+        yes: reply,
+    }
 }

@@ -16,8 +16,8 @@ ghost use Rattle.reader.specs.Rows.{Standing, Ready};
 ghost use Rattle.reader.specs.Sought.{readers-of, found, Tallied};
 ghost use Rattle.engine.specs.States.{Raises, state-of, Steps-to, Answers};
 use expression::Form;
-use model::RunResult;
 use model::Reply;
+use model::RunResult;
 use reader::Readers;
 
 // The highest floor, and so the highest bookmark: the first whole number that is no number any more.

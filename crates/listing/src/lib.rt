@@ -85,7 +85,12 @@ fn copy_out(lent: &mut [u32], from: &[u32])
 
 // Behind the delivery: the expression, and then its members over the delivered lists. They are drawn into a row of their own, one
 // longer than there can be members, so that the last reply is finished and the lent row is untouched until all fit.
-fn list_delivered(numbers: &[u32], ends: &[u32], packed: &[u8], members: &mut [u32]) -> MembersResult
+fn list_delivered(
+    numbers: &[u32],
+    ends: &[u32],
+    packed: &[u8],
+    members: &mut [u32],
+) -> MembersResult
     requires { ⌜ Delivered-lists (now numbers) (now ends) ⌝ }
     ensures { λ r. ⌜ counted r (now (members .exit)) ≡ list-over (lists-from (now (numbers .entry)) 0 (now (ends .entry))) (now (packed .entry)) (now (members .entry)) ⌝ }
 {

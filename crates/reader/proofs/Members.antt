@@ -112,16 +112,16 @@ module _ {S R : Type 0} (lists : ℕ) (nodes : List ℕ) (F : List Tree → ℕ 
     comes-last e h (t ∷ ts) m w = absurd (omega arith)
 
     -- the first decides
-    pub comes-now : ((t : Tree) (ts : List Tree) → Stands lists nodes t i → r ≡ F (t ∷ ts) i s) → 0 < n → Comes i n s r
+    pub comes-now : ((t : Tree) (ts : List Tree) → 1 + length ts ≡ n → Stands lists nodes t i → r ≡ F (t ∷ ts) i s) → 0 < n → Comes i n s r
     unfolding Stand-each
     comes-now e h [] m w = absurd (omega arith)
-    comes-now e h (t ∷ ts) m w = e t ts (w .0)
+    comes-now e h (t ∷ ts) m w = e t ts (omega arith) (w .0)
 
     -- it does not, and the others do, from the node that the table has behind it
-    pub comes-on : (behind : List ℕ) → Behind nodes behind → (s₁ : S) → ((t : Tree) (ts : List Tree) → Stands lists nodes t i → F ts (i + size t) s₁ ≡ F (t ∷ ts) i s) → 0 < n
+    pub comes-on : (behind : List ℕ) → Behind nodes behind → (s₁ : S) → ((t : Tree) (ts : List Tree) → 1 + length ts ≡ n → Stands lists nodes t i → F ts (i + size t) s₁ ≡ F (t ∷ ts) i s) → 0 < n
         → Comes (getD behind i 0) (n - 1) s₁ r → Comes i n s r
     unfolding Stand-each
     comes-on behind table s₁ e h c [] m w = absurd (omega arith)
     comes-on behind table s₁ e h c (t ∷ ts) m w =
         let z = table lists t i (w .0) in
-        (rw z at (c ts (omega arith) (rw z (w .1)))) ∙ e t ts (w .0)
+        (rw z at (c ts (omega arith) (rw z (w .1)))) ∙ e t ts (omega arith) (w .0)

@@ -10,11 +10,14 @@ use lib.Dec.{ltb}
 use lib.ListN.{replicate, length, length-set, getD, set, drop, drop-of-length-le, length-drop}
 use lib.Seq.{drop-cons, getD-drop}
 use Rattle.model.specs.Lists.{top}
-use Rattle.model.specs.Steps.{Readers, at, passed, answer, read}
+use Rattle.model.specs.Steps as model
+use Rattle.model.specs.Steps.{at, passed, answer, read}
 use Rattle.model.specs.Demands.{sum}
 use Rattle.model.proofs.Seek.{passed-on, passed-off}
 use Rattle.model.proofs.Places.{passed-le, sum-set}
-use Rattle.reader.specs.Sought.{readers, found, Tallied}
+use Rattle.reader.specs.declared.Readers.{Readers}
+use Rattle.reader.specs.declared.ReadResult.{ReadResult}
+use Rattle.reader.specs.Sought.{found, Tallied, Sound, Read, Stays}
 use Rattle.reader.proofs.Answers.{found-at, found-end}
 
 -- ---- one turn, at a place of the list
@@ -55,34 +58,36 @@ below-set (p ∷ ps) zero x most (suc j) h k = k
 below-set (p ∷ ps) (suc i) x most zero h k = k
 below-set (p ∷ ps) (suc i) x most (suc j) h k = below-set ps i x most j h k
 
--- the readers after the node i has moved to a place
-abbrev pub after : Readers → ℕ → ℕ → Readers
-after rs i place = record { places = set (rs .places) i place; moves = rs .moves + (place - getD (rs .places) i 0) }
-
 -- no reader has moved
 none-there : (n i : ℕ) → getD (replicate n 0) i 0 ≤ 0
 none-there zero i = omega arith
 none-there (suc n) zero = omega arith
 none-there (suc n) (suc i) = none-there n i
 
-pub none-moved : Tallied (readers (replicate 48 0) 0)
+pub none-moved : Tallied (record { places = replicate 48 0; moves = 0 })
 none-moved = record { many = refl; small = λ i. omega (arith, none-there 48 i); within = omega arith }
 
--- what is known of the place where the reader of the node i over a list stops
-pub record Stopped (list : List ℕ) (i to : ℕ) (rs : Readers) (place : ℕ) : Type 0 where
-  pub small : getD (rs .places) i 0 ≤ 65535 → length list ≤ 65535 → place ≤ 65535
+-- 48 places of 16 bits sum to far less than 32 bits hold
+pub moves-few : (rs : Readers) → Tallied rs → rs .moves ≤ 48 * 65535
+moves-few rs t = omega (arith, t .within, rw (t .many) at (sum-bound (rs .places) 65535 (t .small)))
+
+-- the readers after the reader of the node i has come to a place, by so many moves
+abbrev after : model.Readers → ℕ → ℕ → ℕ → model.Readers
+after rs i place n = record { places = set (rs .places) i place; moves = rs .moves + n }
+
+-- what is known of the place where a reader over a list stops
+pub record Stopped (list : List ℕ) (before to place : ℕ) : Type 0 where
+  pub small : before ≤ 65535 → length list ≤ 65535 → place ≤ 65535
   pub above : place < length list → to ≤ getD list place 0
-  pub number : (x : ℕ) → place < length list → x ≡ getD list place 0 → x < top → found x (after rs i place) ≡ read list i to rs
-  pub finished : length list ≤ place → found top (after rs i place) ≡ read list i to rs
-  pub tallied : i < 48 → length list ≤ 65535 → Tallied (readers (rs .places) (rs .moves)) → Tallied (readers (after rs i place .places) (after rs i place .moves))
+  pub number : (x : ℕ) → place < length list → x ≡ getD list place 0 → x < top
+      → (i : ℕ) (rs : model.Readers) → getD (rs .places) i 0 ≡ before → found x (after rs i place (place - before)) ≡ read list i to rs
+  pub finished : length list ≤ place
+      → (i : ℕ) (rs : model.Readers) → getD (rs .places) i 0 ≡ before → found top (after rs i place (place - before)) ≡ read list i to rs
 
-pub stopped : (list : List ℕ) (i to : ℕ) (rs : Readers) (place : ℕ) → place ≡ getD (rs .places) i 0 + passed (drop (getD (rs .places) i 0) list) to → Stopped list i to rs place
+pub stopped : (list : List ℕ) (before to place : ℕ) → place ≡ before + passed (drop before list) to → Stopped list before to place
 unfolding read answer
-stopped list i to rs place is = record { small = small; above = above; number = number; finished = finished; tallied = tallied }
+stopped list before to place is = record { small = small; above = above; number = number; finished = finished }
   where
-    before : ℕ
-    before = getD (rs .places) i 0
-
     n : ℕ
     n = passed (drop before list) to
 
@@ -95,18 +100,47 @@ stopped list i to rs place is = record { small = small; above = above; number = 
     above : place < length list → to ≤ getD list place 0
     above h = rw (is, ← getD-drop before list n 0) (stop-above (drop before list) to (omega (arith, is, length-drop before list)))
 
-    reads : read list i to rs ≡ answer (drop place list) (after rs i place)
-    reads = let moves : place - before ≡ n = omega (arith, is) in rw (← is, moves)
+    reads : (i : ℕ) (rs : model.Readers) → getD (rs .places) i 0 ≡ before → read list i to rs ≡ answer (drop place list) (after rs i place (place - before))
+    reads i rs here = let moves : place - before ≡ n = omega (arith, is) in rw (here, ← is, moves)
 
-    number : (x : ℕ) → place < length list → x ≡ getD list place 0 → x < top → found x (after rs i place) ≡ read list i to rs
-    number x h e lt = found-at x (after rs i place) lt ∙ ap (λ (y : ℕ). at y (after rs i place)) e ∙ sym (reads ∙ ap (λ (l : List ℕ). answer l (after rs i place)) (drop-cons list place 0 h))
+    number : (x : ℕ) → place < length list → x ≡ getD list place 0 → x < top
+        → (i : ℕ) (rs : model.Readers) → getD (rs .places) i 0 ≡ before → found x (after rs i place (place - before)) ≡ read list i to rs
+    number x h e lt i rs here = found-at x _ lt ∙ ap (λ (y : ℕ). at y (after rs i place (place - before))) e ∙ sym (reads i rs here ∙ ap (λ (l : List ℕ). answer l (after rs i place (place - before))) (drop-cons list place 0 h))
 
-    finished : length list ≤ place → found top (after rs i place) ≡ read list i to rs
-    finished h = found-end top (after rs i place) (omega arith) ∙ sym (reads ∙ ap (λ (l : List ℕ). answer l (after rs i place)) (drop-of-length-le list h))
+    finished : length list ≤ place → (i : ℕ) (rs : model.Readers) → getD (rs .places) i 0 ≡ before → found top (after rs i place (place - before)) ≡ read list i to rs
+    finished h i rs here = found-end top _ (omega arith) ∙ sym (reads i rs here ∙ ap (λ (l : List ℕ). answer l (after rs i place (place - before))) (drop-of-length-le list h))
 
-    tallied : i < 48 → length list ≤ 65535 → Tallied (readers (rs .places) (rs .moves)) → Tallied (readers (after rs i place .places) (after rs i place .moves))
-    tallied h k t = record {
-      many = length-set (rs .places) i place ∙ t .many;
-      small = λ j. below-set (rs .places) i place 65535 j (small (t .small i) k) (t .small j);
-      within = rw is (omega (arith, sum-set (rs .places) i n (omega (arith, t .many)), t .within));
-    }
+-- ---- a reader that stays
+set-same : (ps : List ℕ) (i : ℕ) → set ps i (getD ps i 0) ≡ ps
+set-same [] i = refl
+set-same (p ∷ ps) zero = refl
+set-same (p ∷ ps) (suc i) = ap (λ (qs : List ℕ). p ∷ qs) (set-same ps i)
+
+pub stays : (l : List ℕ) (place e : ℕ) (r : ReadResult) → Read l place e r → r .moves ≡ 0 → Stays l place e (r .answer)
+stays l place e r reads z = record {
+  above = reads .above;
+  low = reads .low;
+  is = λ i rs here.
+      let place : r .place ≡ getD (rs .places) i 0 = reads .still z ∙ sym here in
+      let places : set (rs .places) i (r .place) ≡ rs .places = ap (set (rs .places) i) place ∙ set-same (rs .places) i in
+      let moves : rs .moves + r .moves ≡ rs .moves = omega (arith, z) in
+      rw (places, moves) at (reads .is i rs here);
+}
+
+-- ---- a node's reader has stepped: what the readers are then
+module _ {l : List ℕ} {e : ℕ} {r : ReadResult} (rs : Readers) (i : ℕ) (reads : Read l (getD (rs .places) i 0) e r) (here : i < 48) (t : Tallied rs) where
+  abbrev pub stepped : Readers
+  stepped = record { places = set (rs .places) i (r .place); moves = rs .moves + r .moves }
+
+  pub stepped-tallied : Tallied stepped
+  stepped-tallied =
+      let more : getD (rs .places) i 0 + (r .place - getD (rs .places) i 0) ≡ r .place = omega (arith, reads .within) in
+      let grown = rw more at (sum-set (rs .places) i (r .place - getD (rs .places) i 0) (omega (arith, t .many))) in
+      record {
+        many = length-set (rs .places) i (r .place) ∙ t .many;
+        small = λ j. below-set (rs .places) i (r .place) 65535 j (reads .small) (t .small j);
+        within = omega (arith, grown, t .within, reads .within);
+      }
+
+  pub stepped-sound : Sound e (record { readers = stepped; answer = r .answer })
+  stepped-sound = record { above = reads .above; low = reads .low; tallied = stepped-tallied }

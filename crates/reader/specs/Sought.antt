@@ -1,28 +1,26 @@
 -- The readers as the code has them, and what a seek hands back.
 use mathlib.Core.Path.{_≡_}
 use mathlib.Core.Bool.{true, false}
-use mathlib.Core.List.{List}
-use Prim.Native.Nat.{ℕ, _≤_}
+use mathlib.Core.List.{List, []}
+use Prim.Native.Nat.{ℕ, _+_, _≤_}
 use lib.Dec.{ltb}
-use lib.ListN.{length, getD}
-use Rattle.model.specs.Lists.{top}
+use lib.ListN.{length, getD, set}
+use Rattle.model.specs.declared.Node.the-variants.{Leaf}
+use Rattle.model.specs.Outcome.{accepted}
+use Rattle.model.specs.Lists.{top, lists-from}
+use Rattle.model.specs.Forms.{node-of}
 use Rattle.model.specs.Steps as model
-use Rattle.model.specs.Steps.{Found, end, at}
+use Rattle.model.specs.Steps.{Found, end, at, read}
 use Rattle.model.specs.Demands.{sum}
 use Rattle.reader.specs.declared.Readers.{Readers}
 use Rattle.reader.specs.declared.SeekResult.{SeekResult}
-
--- places and moves that stand apart, as readers
-abbrev pub readers : List ℕ → ℕ → Readers
-readers places moves = record { places = places; moves = moves }
+use Rattle.reader.specs.declared.ReadResult.{ReadResult}
+use Rattle.reader.specs.declared.Member.{Member}
+use Rattle.reader.specs.declared.Member.the-variants.{Still, Moved, Operator}
 
 -- places and moves: the same as the record of the definitions
 abbrev pub readers-of : Readers → model.Readers
 readers-of r = record { places = r .places; moves = r .moves }
-
--- an answer, with the places and moves that a seek in lent ones leaves: what a seek hands back
-abbrev pub sought : ℕ → List ℕ → ℕ → SeekResult
-sought answer places moves = record { readers = readers places moves; answer = answer }
 
 -- an answer: "finished" is 4,294,967,296, which no number reaches
 unfoldable pub found : ℕ → model.Readers → Found
@@ -42,3 +40,31 @@ pub record Sound (e : ℕ) (s : SeekResult) : Type 0 where
   pub above : e ≤ s .answer
   pub low : s .answer ≤ top
   pub tallied : Tallied (s .readers)
+
+-- what a reader's step to e hands back, from a place in the list l: of whichever node's reader it is, its step by `Steps.read`
+pub record Read (l : List ℕ) (place e : ℕ) (r : ReadResult) : Type 0 where
+  pub above : e ≤ r .answer
+  pub low : r .answer ≤ top
+  pub small : r .place ≤ 65535
+  pub within : place + r .moves ≤ r .place
+  pub still : r .moves ≡ 0 → r .place ≡ place
+  pub is : (i : ℕ) (rs : model.Readers) → getD (rs .places) i 0 ≡ place
+      → found (r .answer) (record { places = set (rs .places) i (r .place); moves = rs .moves + r .moves }) ≡ read l i e rs
+
+-- a step that leaves the reader at its place, with the answer x
+pub record Stays (l : List ℕ) (place e x : ℕ) : Type 0 where
+  pub above : e ≤ x
+  pub low : x ≤ top
+  pub is : (i : ℕ) (rs : model.Readers) → getD (rs .places) i 0 ≡ place → found x rs ≡ read l i e rs
+
+-- something of the list that a byte names
+pub record Named (numbers ends : List ℕ) (byte : ℕ) (Of : List ℕ → Type 0) : Type 0 where
+  pub list : ℕ
+  pub named : node-of byte ≡ accepted (Leaf list)
+  pub of : Of (getD (lists-from numbers 0 ends) list [])
+
+-- what a member node comes to, by its byte: its list's reader stays, or moves; or it is no list
+abbrev pub Reads : (numbers ends : List ℕ) → (byte place e : ℕ) → Member → Type 0
+Reads numbers ends byte place e (Still x) = Named numbers ends byte (λ l. Stays l place e x)
+Reads numbers ends byte place e (Moved r) = Named numbers ends byte (λ l. Read l place e r)
+Reads numbers ends byte place e Operator = (k : ℕ) → node-of byte ≡ accepted (Leaf k) → ⊥

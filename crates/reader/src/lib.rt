@@ -1,17 +1,19 @@
 // One reader's step over its list, and the table that says where each node of an expression ends.
 ghost use mathlib.Core.Path.{_≡_};
 ghost use mathlib.Core.List.{[]};
-ghost use Prim.Native.Nat.{_+_, _≤_, _<_};
+ghost use Prim.Native.Nat.{ℕ, _+_, _≤_, _<_};
 ghost use lib.ListN.{length, getD, drop};
 ghost use Rattle.model.specs.Outcome.{accepted};
 ghost use Rattle.model.specs.Lists.{top, lists-from, lists-of};
-ghost use Rattle.model.specs.Steps.{passed, read as read-list};
+ghost use Rattle.model.specs.Steps.{passed};
 ghost use Rattle.model.specs.declared.Node.{Node};
+ghost use Rattle.model.specs.declared.Node.the-variants.{Leaf};
 ghost use Rattle.model.specs.Forms.{node-of};
 ghost use Rattle.expression.specs.Reading.{members};
 ghost use Rattle.reader.specs.Rows.{Behind, siblings};
-ghost use Rattle.reader.specs.Sought.{readers, readers-of, sought, found-of, Tallied, Sound};
+ghost use Rattle.reader.specs.Sought.{Read, Reads};
 use expression::Kind;
+use model::Node;
 
 // The answer of a seek that is finished: the first whole number that is no number of a list.
 pub const FINISHED: u64 = 4294967296;
@@ -26,6 +28,21 @@ pub struct Readers {
 pub struct SeekResult {
     pub readers: Readers,
     pub answer: u64,
+}
+
+// What one reader's step hands back: the number that it answers or FINISHED, how many moves it made, and its new place.
+pub struct ReadResult {
+    pub answer: u64,
+    pub moves: u32,
+    pub place: u16,
+}
+
+// What a member node comes to: a list is read at once, and its reader stays, with this answer, or moves; an operator is left to the
+// seek or the check of that node.
+pub enum Member {
+    Still(u64),
+    Moved(ReadResult),
+    Operator,
 }
 
 // A number beside FINISHED.
@@ -72,33 +89,53 @@ fn moved(list: &[u32], place: usize, to: u64) -> usize
     at
 }
 
-// The reader of a node, at list k: "At the list's end it is finished, else it answers the number".
-pub fn read_list(
-    numbers: &[u32],
-    ends: &[u32],
-    k: usize,
-    node: usize,
-    places: &mut [u16; 48],
-    moves: &mut u32,
-    to: u64,
-) -> u64
+// The reader of list k, from its place: "At the list's end it is finished, else it answers the number".
+pub fn read_list(numbers: &[u32], ends: &[u32], k: usize, place: u16, to: u64) -> ReadResult
     requires { ⌜ lists-of (now numbers) (now ends) ≡ accepted (lists-from (now numbers) 0 (now ends)) ⌝ }
-    requires { ⌜ (k < length (now ends)) × (node < 48) ⌝ }
-    requires { ⌜ (to ≤ top) × Tallied (readers (now places) (now moves)) ⌝ }
-    ensures { λ r. ⌜ Sound to (sought r (now (places .exit)) (now (moves .exit))) ⌝ }
-    ensures { λ r. ⌜ found-of (sought r (now (places .exit)) (now (moves .exit))) ≡ read-list (getD (lists-from (now (numbers .entry)) 0 (now (ends .entry))) k []) node to (readers-of (readers (now (places .entry)) (now (moves .entry)))) ⌝ }
+    requires { ⌜ (k < length (now ends)) × (to ≤ top) ⌝ }
+    ensures { λ r. ⌜ Read (getD (lists-from (now (numbers .entry)) 0 (now (ends .entry))) k []) place to r ⌝ }
 {
     let from = lists::start_of(ends, k);
     let stop = lists::start_of(ends, k + 1);
     let list = &numbers[from..stop];
-    let before = index(places[node]);
-    let place = moved(list, before, to);
-    places[node] = place_of(place);
-    *moves += moves_of(place - before);
-    if place < list.len() {
-        wide(list[place])
+    let before = index(place);
+    let at = moved(list, before, to);
+    let moves = moves_of(at - before);
+    let after = place_of(at);
+    if at < list.len() {
+        ReadResult {
+            answer: wide(list[at]),
+            moves,
+            place: after,
+        }
     } else {
-        FINISHED
+        ReadResult {
+            answer: FINISHED,
+            moves,
+            place: after,
+        }
+    }
+}
+
+// The member node of a byte: "0 to 31 a list", whose reader steps from its place.
+pub fn read_member(numbers: &[u32], ends: &[u32], byte: u8, place: u16, to: u64) -> Member
+    requires { ⌜ lists-of (now numbers) (now ends) ≡ accepted (lists-from (now numbers) 0 (now ends)) ⌝ }
+    requires { ⌜ ((k : ℕ) → node-of byte ≡ accepted (Leaf k) → k < length (now ends)) × (to ≤ top) ⌝ }
+    ensures { λ r. ⌜ Reads (now (numbers .entry)) (now (ends .entry)) byte place to r ⌝ }
+{
+    let kind = expression::node_of(byte);
+    let Kind::Known(node) = kind else {
+        return Member::Operator;
+    };
+    match node {
+        Node::Leaf(k) => {
+            let r = read_list(numbers, ends, expression::wide(k), place, to);
+            if r.moves == 0 {
+                return Member::Still(r.answer);
+            }
+            Member::Moved(r)
+        }
+        _ => Member::Operator,
     }
 }
 

@@ -19,8 +19,7 @@ use Rattle.reader.specs.Rows.{Stands, Behind, Ready}
 use Rattle.reader.specs.Sought.{found}
 use Rattle.reader.proofs.Standing.{kind, each, below, many-below, leaf-is, union-is, intersection-is, root-is, inside}
 use Rattle.reader.proofs.Members.{first-is, below-at, Split, split, Pair, Comes, comes-last, comes-now, comes-on}
-use Rattle.seeks.specs.Finding.{seek-each}
-use Rattle.seeks.proofs.Turns.{first-ended, differ-stop, differ-turn, intersect-none, intersect-stop, intersect-turn, head, tail, each-is, unite-from, unite-end, unite-turn, unite-start, each-end, each-stop, each-turn, intersection-step}
+use Rattle.seeks.proofs.Turns.{seek-each, going, first-ended, differ-stop, differ-turn, intersect-begin, going-none, going-stop, going-turn, head, tail, each-is, unite-from, unite-end, unite-turn, unite-start, each-end, each-stop, each-turn, intersection-step}
 
 -- what the loops over member nodes go through: a union's with the least answer so far, and those after an intersection's first
 abbrev pub uniting : List (List ℕ) → ℕ → List Tree → ℕ → ℕ × Readers → Found
@@ -104,20 +103,15 @@ module _ (numbers ends nodes behind : List ℕ) (n : Numbers numbers) (r : Ready
       let d = intersection-is t count root in
       every-of count t (d .trees) (d .is) root s
 
-  -- how a turn of the loop ends: nothing in the first, or in the others; they answer the first's; once more from a higher candidate
+  -- the first has answered: nothing, which ends it; or the candidate for the others
   module _ (count : ℕ) (t : Tree) (v : Every t count) (e : ℕ) (rs : Readers) (low : e ≤ top) (long : length (rs .places) ≡ 48) (x : ℕ) (rs₁ : Readers) (a : found x rs₁ ≡ first-seek (v .first) e rs) where
     pub every-ended : top ≤ x → found x rs₁ ≡ seek ls t node e rs
     every-ended h = sym (v .step e rs low long ∙ first-ended (first-seek (v .first)) e rs x rs₁ a _ h)
 
-    module _ (xt : x < top) (y : ℕ) (rs₂ : Readers) (c : found y rs₂ ≡ others-seek (v .others) x rs₁) where
-      pub every-none : top ≤ y → found y rs₂ ≡ seek ls t node e rs
-      every-none h = sym (v .step e rs low long ∙ intersect-none (whole t) (first-seek (v .first)) (others-seek (v .others)) e rs x rs₁ a xt y rs₂ c h)
-
-      pub every-stopped : y ≡ x → found y rs₂ ≡ seek ls t node e rs
-      every-stopped h = sym (v .step e rs low long ∙ intersect-stop (whole t) (first-seek (v .first)) (others-seek (v .others)) e rs x rs₁ a xt y rs₂ c h)
-
-      pub every-turned : x < y → y < top → seek ls t node y rs₂ ≡ seek ls t node e rs
-      every-turned h k = sym (v .step e rs low long ∙ intersect-turn (whole t) (first-seek (v .first)) (others-seek (v .others)) e rs x rs₁ a xt y rs₂ c h k)
+    pub every-begun : x < top → (f : Found) → Comes (length ends) nodes (following ls x) (getD behind (node + 1) 0) (count - 1) rs₁ f → going (whole t) x f ≡ seek ls t node e rs
+    every-begun h f c =
+        ap (going (whole t) x) (c (v .others) (omega (arith, v .many)) (v .split-at .others-at))
+        ∙ sym (v .step e rs low long ∙ intersect-begin (whole t) (first-seek (v .first)) (others-seek (v .others)) e rs x rs₁ a h)
 
   -- ---- union
   unite-of : (count : ℕ) (t : Tree) (ts : Members) → t ≡ union ts → kind t ≡ Union count → At t node → (e : ℕ) (rs : Readers) → e ≤ top → length (rs .places) ≡ 48
@@ -156,10 +150,10 @@ module _ (numbers ends nodes behind : List ℕ) (table : Behind nodes behind) (e
 
   pub unites-on : (least new : ℕ) (f : Found) → least ≤ top → x ≤ top → new ≡ min least x
       → Comes (length ends) nodes (uniting lists e) (getD behind i 0) (n - 1) (new, rs₁) f → Comes (length ends) nodes (uniting lists e) i n (least, rs) f
-  unites-on least new f lt xt m = comes-on (length ends) nodes (uniting lists e) i n (least, rs) f behind table (new, rs₁) (λ t ts s. sym (unite-turn lists least t ts i e rs x rs₁ new (a t s) lt xt m)) h
+  unites-on least new f lt xt m = comes-on (length ends) nodes (uniting lists e) i n (least, rs) f behind table (new, rs₁) (λ t ts many s. sym (unite-turn lists least t ts i e rs x rs₁ new (a t s) lt xt m)) h
 
   pub follows-stop : e < x → Comes (length ends) nodes (following lists e) i n rs (found x rs₁)
-  follows-stop lt = comes-now (length ends) nodes (following lists e) i n rs (found x rs₁) (λ t ts s. sym (each-stop lists t ts i e rs x rs₁ (a t s) lt)) h
+  follows-stop lt = comes-now (length ends) nodes (following lists e) i n rs (found x rs₁) (λ t ts many s. sym (each-stop lists t ts i e rs x rs₁ (a t s) lt)) h
 
   pub follows-on : (f : Found) → e < top → x ≡ e → Comes (length ends) nodes (following lists e) (getD behind i 0) (n - 1) rs₁ f → Comes (length ends) nodes (following lists e) i n rs f
-  follows-on f low same = comes-on (length ends) nodes (following lists e) i n rs f behind table rs₁ (λ t ts s. sym (each-turn lists t ts i e rs x rs₁ (a t s) low same)) h
+  follows-on f low same = comes-on (length ends) nodes (following lists e) i n rs f behind table rs₁ (λ t ts many s. sym (each-turn lists t ts i e rs x rs₁ (a t s) low same)) h

@@ -1,13 +1,13 @@
 -- One turn of each operator's loop, and how it ends, as the steps of the model have it; the repeats by the equations of model
 -- Fuel, which have no fuel in sight. Assumes nothing.
 use mathlib.Core.Path.{_≡_, refl, sym, ap, _∙_}
-use mathlib.Core.Bool.{Bool, true, false}
+use mathlib.Core.Bool.{Bool, true, false, _&&_, not}
 use mathlib.Core.List.{List, [], _∷_}
 use Prim.Native.Nat.{ℕ, suc, _+_, _≤_, _<_, min}
 use native.Mathlib.Omega.{arith}
 use lib.Dec.{ltb, eqb}
 use lib.ListN.{length, getD}
-use borrow.Author.Tests.{lt-ltb, le-ltb, eq-eqb, ne-eqb, ltb-true, ltb-false}
+use borrow.Author.Tests.{lt-ltb, le-ltb, eq-eqb, ne-eqb, ltb-true, ltb-false, eqb-false}
 use Rattle.model.specs.Lists.{top}
 use Rattle.model.specs.Expression.{Tree, union, intersection, Members, one, more, size, sizes}
 use Rattle.model.specs.Steps.{Readers, Found, end, at, Seek, on, unite, follow, seek, seek-union, seek-rest}
@@ -18,7 +18,6 @@ use Rattle.model.proofs.Fuel.{differ-with, intersect-with, seek-members}
 use Rattle.reader.specs.Sought.{found}
 use Rattle.reader.proofs.Answers.{found-at, found-end}
 use Rattle.reader.proofs.Standing.{each}
-use Rattle.seeks.specs.Finding.{seek-each}
 
 -- ---- answers
 
@@ -29,6 +28,15 @@ module _ (r : Found) (x : ℕ) (rs : Readers) (is : found x rs ≡ r) (f : Reade
 
   on-end : top ≤ x → on r f g ≡ f rs
   on-end h = ap (λ (q : Found). on q f g) (sym is ∙ found-end x rs h)
+
+-- `Steps.seek-rest` over any number of trees from the node i on: with none left, the last has answered the candidate
+unfoldable pub seek-each : List (List ℕ) → List Tree → ℕ → Seek
+seek-each ls [] i = at
+seek-each ls (t ∷ ts) i = follow (seek ls t i) (seek-each ls ts (i + size t))
+
+-- how an intersection goes on from what they come to
+abbrev pub going : Seek → ℕ → Found → Found
+going again e f = on f end λ y rs. elim (ltb e y) [ true ↦ again y rs | false ↦ at e rs ]
 
 -- ---- difference and intersection: the first to e, then the others to its answer
 
@@ -47,16 +55,37 @@ module _ (again f g : Seek) (e : ℕ) (rs : Readers) (x : ℕ) (rs₁ : Readers)
     pub differ-turn : y ≡ x → differ-with again f g e rs ≡ again (suc x) rs₂
     differ-turn h = on-at (f e rs) x rs₁ a _ _ low ∙ on-at (g x rs₁) y rs₂ b _ _ (omega arith) ∙ rw (eq-eqb x y (sym h))
 
-    pub intersect-none : top ≤ y → intersect-with again f g e rs ≡ found y rs₂
-    intersect-none h = on-at (f e rs) x rs₁ a _ _ low ∙ on-end (g x rs₁) y rs₂ b _ _ h ∙ sym (found-end y rs₂ h)
+-- the first's answer is the candidate, and those after it are gone through
+pub intersect-begin : (again f g : Seek) (e : ℕ) (rs : Readers) (x : ℕ) (rs₁ : Readers) → found x rs₁ ≡ f e rs → x < top → intersect-with again f g e rs ≡ going again x (g x rs₁)
+intersect-begin again f g e rs x rs₁ a low = on-at (f e rs) x rs₁ a _ _ low
 
-    pub intersect-stop : y ≡ x → intersect-with again f g e rs ≡ found y rs₂
-    intersect-stop h =
-        on-at (f e rs) x rs₁ a _ _ low ∙ on-at (g x rs₁) y rs₂ b _ _ (omega arith)
-        ∙ rw (le-ltb x y (omega arith)) (ap (λ (n : ℕ). at n rs₂) (sym h) ∙ sym (found-at y rs₂ (omega arith)))
+-- what those after the first come to: nothing; the candidate; an answer above it
+module _ (again : Seek) (e y : ℕ) (rs : Readers) where
+  pub going-none : top ≤ y → going again e (found y rs) ≡ found y rs
+  going-none h = on-end (found y rs) y rs refl _ _ h ∙ sym (found-end y rs h)
 
-    pub intersect-turn : x < y → y < top → intersect-with again f g e rs ≡ again y rs₂
-    intersect-turn h k = on-at (f e rs) x rs₁ a _ _ low ∙ on-at (g x rs₁) y rs₂ b _ _ k ∙ rw (lt-ltb x y h)
+  pub going-stop : y ≡ e → y < top → going again e (found y rs) ≡ found y rs
+  going-stop h k = on-at (found y rs) y rs refl _ _ k ∙ rw (le-ltb e y (omega arith)) (ap (λ (n : ℕ). at n rs) (sym h) ∙ sym (found-at y rs k))
+
+  pub going-turn : e < y → y < top → going again e (found y rs) ≡ again y rs
+  going-turn h k = on-at (found y rs) y rs refl _ _ k ∙ rw (lt-ltb e y h)
+
+-- whether it begins again, by the test of the code: an answer above the candidate that did not come from the first
+module _ (e x i first : ℕ) (b : Bool) (is : b ≡ ltb e x && not (eqb i first)) where
+  pub again-above : b ≡ true → (e < x) × (i ≡ first → ⊥)
+  again-above h = go (ltb e x) refl (eqb i first) refl
+    where
+      go : (p : Bool) → ltb e x ≡ p → (q : Bool) → eqb i first ≡ q → (e < x) × (i ≡ first → ⊥)
+      go true y false z = (ltb-true e x y, eqb-false i first z)
+      go true y true z = let no : _≡_ {A = ℕ} 0 1 = cc (is, h, y, z) in absurd (omega arith)
+      go false y q z = let no : _≡_ {A = ℕ} 0 1 = cc (is, h, y) in absurd (omega arith)
+
+  pub again-else : b ≡ false → (i ≡ first → ⊥) → x ≤ e
+  again-else h other = go (ltb e x) refl
+    where
+      go : (p : Bool) → ltb e x ≡ p → x ≤ e
+      go true y = let no : _≡_ {A = ℕ} 0 1 = cc (is, h, y, ne-eqb i first other) in absurd (omega arith)
+      go false y = ltb-false e x y
 
 -- ---- union: the trees left, with the least answer so far
 

@@ -13,7 +13,11 @@ use model::WriteResult;
 
 // A packed expression into its row form.
 #[no_mangle]
-pub extern "C" fn zwailmoor_unpack_expression(bytes: &[u8], lists: usize, row: &mut [u8]) -> WriteResult
+pub extern "C" fn zwailmoor_unpack_expression(
+    bytes: &[u8],
+    lists: usize,
+    row: &mut [u8],
+) -> WriteResult
     ensures { λ r. ⌜ written r (now (row .exit)) ≡ unpack-expression (now (bytes .entry)) lists (now (row .entry)) ⌝ }
 {
     forms::unpack_expression(bytes, lists, row)
@@ -21,7 +25,11 @@ pub extern "C" fn zwailmoor_unpack_expression(bytes: &[u8], lists: usize, row: &
 
 // The row form of an expression into its packed form.
 #[no_mangle]
-pub extern "C" fn zwailmoor_pack_expression(row: &[u8], lists: usize, bytes: &mut [u8]) -> WriteResult
+pub extern "C" fn zwailmoor_pack_expression(
+    row: &[u8],
+    lists: usize,
+    bytes: &mut [u8],
+) -> WriteResult
     ensures { λ r. ⌜ written r (now (bytes .exit)) ≡ pack-expression (now (row .entry)) lists (now (bytes .entry)) ⌝ }
 {
     forms::pack_expression(row, lists, bytes)

@@ -1,18 +1,16 @@
 -- `read_list` meets its contract: list k is the run of numbers that the reader gets, and the reader stops where the step does.
--- The moves fit 32 bits, since they are within the sum of 48 places of 16 bits. Assumes nothing.
+-- Assumes nothing.
 use borrow.Author.Needs.{needs}
 use mathlib.Core.Path.{_≡_, sym, ap, ap₂, _∙_}
 use mathlib.Core.List.{List, []}
-use Prim.Native.Nat.{ℕ, _+_, _-_, _*_, _≤_, _<_}
+use Prim.Native.Nat.{ℕ, _+_, _-_, _≤_, _<_}
 use native.Mathlib.Omega.{arith}
 use native.Mathlib.Numerals.{add-one}
 use lib.ListN.{length, getD, take, drop}
 use Rattle.model.specs.Lists.{top, part, lists-from}
 use Rattle.model.specs.Steps.{passed}
-use Rattle.model.specs.Demands.{sum}
 use Rattle.lists.proofs.Spans.{list-runs}
-use Rattle.reader.specs.Sought.{readers, readers-of}
-use Rattle.reader.proofs.Moves.{sum-bound, Stopped, stopped}
+use Rattle.reader.proofs.Moves.{Stopped, stopped}
 use Rattle.reader.proofs.read_list.Statement.{statement}
 use Rattle.reader.proofs.read_list.Tie as tie
 
@@ -31,19 +29,20 @@ listed c =
     let args = start .args in
     let from = c .before .start-of .ensures in
     let stop = rw add-one at (c .start-of2 .ensures) in
-    let r = list-runs (args .numbers .now) (args .ends .now) (args .k) (start .pre .0) (start .pre .1 .0 .0) in
+    let r = list-runs (args .numbers .now) (args .ends .now) (args .k) (start .pre .0) (start .pre .1 .0) in
     rw (from, stop) (record { order = r .order; inside = r .inside; few = r .few; many = r .many; is = sym (r .is) })
 
--- 48 places of 16 bits sum to far less than 32 bits hold
-places-sum : (c : tie.Start) → sum (c .args .places .now) ≤ 48 * 65535
-places-sum c = let t = c .pre .1 .1 .1 in rw (t .many) at (sum-bound (c .args .places .now) 65535 (t .small))
-
 -- the reader stops where the step does
-stops : (c : tie.After-moved) → let args = c .before .before .before .before .before .before .before .before .args in Stopped (getD (lists-from (args .numbers .now) 0 (args .ends .now)) (args .k) []) (args .node) (args .to) (readers-of (readers (args .places .now) (args .moves .now))) (c .moved .result)
+stops : (c : tie.After-moved) → let args = c .before .before .before .before .before .before .before .args in Stopped (getD (lists-from (args .numbers .now) 0 (args .ends .now)) (args .k) []) (args .place) (args .to) (c .moved .result)
 stops c =
-    let args = c .before .before .before .before .before .before .before .before .args in
-    stopped _ (args .node) (args .to) (readers-of (readers (args .places .now) (args .moves .now))) (c .moved .result)
-    (c .moved .ensures ∙ ap₂ (λ (b : ℕ) (l : List ℕ). b + passed (drop b l) (args .to)) (c .before .index .ensures .0) (listed (c .before .before .before .before) .is))
+    let args = c .before .before .before .before .before .before .before .args in
+    stopped _ (args .place) (args .to) (c .moved .result)
+    (c .moved .ensures ∙ ap₂ (λ (b : ℕ) (l : List ℕ). b + passed (drop b l) (args .to)) (c .before .index .ensures .0) (listed (c .before .before .before) .is))
+
+few : (c : tie.After-moved) → c .moved .result ≤ 65535
+few c =
+    let l = listed (c .before .before .before) in
+    stops c .small (omega (arith, c .before .index .ensures .0, c .before .index .ensures .1)) (omega (arith, l .many, l .few))
 
 start-of-requires : tie.Need-start-of-requires
 start-of-requires c κs = search needs
@@ -66,37 +65,20 @@ part-list-start c = omega (arith, listed c .order, listed c .inside)
 part-list-end : tie.Need-part-list-end
 part-list-end c = omega (arith, listed c .order, listed c .inside)
 
-mul-index : tie.Need-mul-index
-mul-index c = search needs
-
-element-copy-out-index : tie.Need-element-copy-out-index
-element-copy-out-index c = search needs
-
 index-requires : tie.Need-index-requires
 index-requires c κs = search needs
 
 moved-requires : tie.Need-moved-requires
 moved-requires c κs = search needs
 
-place-of-requires : tie.Need-place-of-requires
-place-of-requires c κs =
-    let l = listed (c .before .before .before .before) in
-    stops c .small (omega (arith, c .before .index .ensures .0, c .before .index .ensures .1)) (omega (arith, l .many, l .few))
-
-mul-places : tie.Need-mul-places
-mul-places c = search needs
-
-element-write-places : tie.Need-element-write-places
-element-write-places c = search needs
-
 sub-moves-of : tie.Need-sub-moves-of
 sub-moves-of c = search needs
 
 moves-of-requires : tie.Need-moves-of-requires
-moves-of-requires c κs = search needs
+moves-of-requires c κs = omega (arith, few c)
 
-add-moves : tie.Need-add-moves
-add-moves c = let m = c .before in let start = m .before .before .before .before .before .before .before .before .before .before in omega (arith, places-sum start, start .pre .1 .1 .1 .within, m .moves-of .ensures)
+place-of-requires : tie.Need-place-of-requires
+place-of-requires c κs = few (c .before)
 
 mul-wide : tie.Need-mul-wide
 mul-wide c = search needs
@@ -109,28 +91,33 @@ wide-requires c κs = search needs
 
 returns : tie.Need-returns
 returns c =
-    let m = c .before .before .before .before in
-    let d = m .before .before in
-    let start = d .before .before .before .before .before .before .before .before in
-    let l = listed (d .before .before .before .before) in
-    let place : ℕ = d .moved .result in
-    let number = c .wide .ensures ∙ ap (λ (xs : List ℕ). getD xs place 0) (l .is) in
-    let small : c .wide .result < top = omega (arith, c .wide .ensures, c .before .shared-slice-known3 .given place .fits) in
-    rw (m .before .place-of .ensures, m .moves-of .ensures, d .before .index .ensures .0) (
-      record { above = rw number (stops d .above (omega (arith, l .many, c .before .before .if1 .taken))); low = omega arith; tallied = stops d .tallied (start .pre .1 .0 .1) (omega (arith, l .many, l .few)) (start .pre .1 .1 .1) },
-      stops d .number (c .wide .result) (omega (arith, l .many, c .before .before .if1 .taken)) number small,
-    )
+    let p = c .before .before .before in
+    let d = p .before .before in
+    let l = listed (d .before .before .before) in
+    let number = c .wide .ensures ∙ ap (λ (xs : List ℕ). getD xs (d .moved .result) 0) (l .is) in
+    let low : c .wide .result < top = omega (arith, c .wide .ensures, c .before .shared-slice-known3 .given (d .moved .result) .fits) in
+    rw (p .place-of .ensures, p .before .moves-of .ensures, d .before .index .ensures .0) (record {
+      above = rw number (stops d .above (omega (arith, l .many, c .before .before .if1 .taken)));
+      low = omega arith;
+      small = few d;
+      within = omega (arith, d .moved .ensures, d .before .index .ensures .0);
+      still = λ z. omega (arith, d .moved .ensures, d .before .index .ensures .0);
+      is = stops d .number (c .wide .result) (omega (arith, l .many, c .before .before .if1 .taken)) number low;
+    })
 
 returns-2 : tie.Need-returns-2
 returns-2 c =
-    let m = c .before .before in
-    let d = m .before .before in
-    let start = d .before .before .before .before .before .before .before .before in
-    let l = listed (d .before .before .before .before) in
-    rw (m .before .place-of .ensures, m .moves-of .ensures, d .before .index .ensures .0) (
-      record { above = start .pre .1 .1 .0; low = omega arith; tallied = stops d .tallied (start .pre .1 .0 .1) (omega (arith, l .many, l .few)) (start .pre .1 .1 .1) },
-      stops d .finished (omega (arith, l .many, c .if1 .left)),
-    )
+    let p = c .before in
+    let d = p .before .before in
+    let l = listed (d .before .before .before) in
+    rw (p .place-of .ensures, p .before .moves-of .ensures, d .before .index .ensures .0) (record {
+      above = d .before .before .before .before .before .before .before .pre .1 .1;
+      low = omega arith;
+      small = few d;
+      within = omega (arith, d .moved .ensures, d .before .index .ensures .0);
+      still = λ z. omega (arith, d .moved .ensures, d .before .index .ensures .0);
+      is = stops d .finished (omega (arith, l .many, c .if1 .left));
+    })
 
 pub read-list-spec : {M : Type 1} → statement M
 read-list-spec =
@@ -143,16 +130,11 @@ read-list-spec =
     sub-list
     part-list-start
     part-list-end
-    mul-index
-    element-copy-out-index
     index-requires
     moved-requires
-    place-of-requires
-    mul-places
-    element-write-places
     sub-moves-of
     moves-of-requires
-    add-moves
+    place-of-requires
     mul-wide
     shared-slice-read-wide
     wide-requires
