@@ -1,11 +1,13 @@
 -- The packed bits of a row, byte by byte: each known byte writes the node that it says, so the bits of the row of a tree are
 -- its packed bits. Assumes nothing.
-use mathlib.Core.Path.{_≡_, refl, ap, ap₂}
-use mathlib.Core.Bool.{Bool}
+use mathlib.Core.Path.{_≡_, refl, ap, ap₂, subst}
+use mathlib.Core.Bool.{Bool, true, false, cond, _&&_}
 use mathlib.Core.List.{List, [], _∷_, _++_, map}
 use Prim.Native.Nat.{ℕ, _+_, _-_, _*_, _^_, _≤_, _<_}
 use native.Mathlib.Numerals.{add-one}
 use native.Mathlib.Omega.{arith}
+use borrow.Author.Tests.{leb-true}
+use lib.Dec.{leb, eqb}
 use lib.ListN.{length, getD, drop, length-append, drop-of-length-le}
 use lib.Seq.{drop-cons}
 use Rattle.model.specs.declared.Node.{Node}
@@ -16,7 +18,8 @@ use Rattle.model.specs.Fields.{field, value}
 use Rattle.model.specs.Forms.{nodes, nodes-all, row-byte, row, packed-node, packed-nodes, node-of}
 use Rattle.model.specs.Demands.{Named, Named-all}
 use Rattle.model.proofs.Bits.{field-length, field-value}
-use Rattle.model.proofs.Accepted.{value-lt}
+use Rattle.model.proofs.Order.{and-true}
+use Rattle.model.proofs.Accepted.{value-lt, accepted-same, never-accepted}
 use Rattle.model.proofs.Trees.{Writable, count-pos, byte-node}
 use Rattle.forms.specs.declared.Bits.{Bits}
 use Rattle.forms.specs.Packing.{said-bits, byte-bits, bits-of, row-bits}
@@ -31,6 +34,19 @@ said-few (accepted (Leaf k)) = omega (arith, length-append (field 2 0) (field 5 
 said-few (accepted Difference) = omega (arith, field-length 2 1)
 said-few (accepted (Union n)) = omega (arith, length-append (field 2 2) (field 3 (n - 1)), field-length 2 2, field-length 3 (n - 1))
 said-few (accepted (Intersection n)) = omega (arith, length-append (field 2 3) (field 3 (n - 1)), field-length 2 3, field-length 3 (n - 1))
+
+-- a node that a byte says can be written: its list number fits 5 bits, its members are 1 to 8
+pub said-writable : (b : ℕ) (n : Node) → node-of b ≡ accepted n → Writable n
+unfolding node-of
+said-writable b n e = go (leb b 31) refl (eqb b 64) (leb 129 b && leb b 136) refl (leb 193 b && leb b 200) refl e
+  where
+    go : (p : Bool) → leb b 31 ≡ p → (q r : Bool) → leb 129 b && leb b 136 ≡ r → (s : Bool) → leb 193 b && leb b 200 ≡ s
+        → cond p (accepted (Leaf b)) (cond q (accepted Difference) (cond r (accepted (Union (b - 128))) (cond s (accepted (Intersection (b - 192))) (refused 14)))) ≡ accepted n → Writable n
+    go true hp q r hr s hs e = subst Writable (accepted-same e) (omega (arith, leb-true b 31 hp))
+    go false hp true r hr s hs e = subst Writable (accepted-same e) tt
+    go false hp false true hr s hs e = let w = and-true (leb 129 b) (leb b 136) hr in subst Writable (accepted-same e) (omega (arith, leb-true 129 b (w .0)), omega (arith, leb-true b 136 (w .1)))
+    go false hp false false hr true hs e = let w = and-true (leb 193 b) (leb b 200) hs in subst Writable (accepted-same e) (omega (arith, leb-true 193 b (w .0)), omega (arith, leb-true b 200 (w .1)))
+    go false hp false false hr false hs e = never-accepted e
 
 -- what is known of how a byte is packed
 pub record Packed-as (b : ℕ) (r : Bits) : Type 0 where

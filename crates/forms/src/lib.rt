@@ -8,6 +8,8 @@ ghost use Rattle.fields.specs.Rows.{lay};
 ghost use Rattle.fields.specs.Positions.{put-bits};
 ghost use Rattle.forms.specs.Packing.{bits-of, row-bits};
 use expression::Form;
+use expression::Kind;
+use model::Node;
 use model::WriteResult;
 
 // How a byte of the row form is packed: so many bits, and the number that they write.
@@ -28,23 +30,36 @@ fn copy_out(lent: &mut [u8], from: &[u8])
     }
 }
 
-// How a byte of the row form is packed; an unknown byte has no bits.
+// A list's number, or a member count, as the value of bits.
+fn wide(x: u8) -> u32
+    ensures { λ r. ⌜ r ≡ x ⌝ }
+{
+    x as u32
+}
+
+// How a byte of the row form is packed: "2 bits of kind. 0 list, then 5 bits of list number. 1 difference. 2 union and 3
+// intersection, then 3 bits of member count minus 1". An unknown byte has no bits.
 fn bits_of(b: u8) -> Bits
     ensures { λ r. ⌜ r ≡ bits-of b ⌝ }
 {
-    let v = b as u32;
-    match b {
-        0..=31 => Bits { width: 7, value: v },
-        64 => Bits { width: 2, value: 1 },
-        129..=136 => Bits {
-            width: 5,
-            value: 16 + (v - 129),
+    let kind = expression::node_of(b);
+    let Kind::Known(node) = kind else {
+        return Bits { width: 0, value: 0 };
+    };
+    match node {
+        Node::Leaf(k) => Bits {
+            width: 7,
+            value: wide(k),
         },
-        193..=200 => Bits {
+        Node::Difference => Bits { width: 2, value: 1 },
+        Node::Union(n) => Bits {
             width: 5,
-            value: 24 + (v - 193),
+            value: 16 + (wide(n) - 1),
         },
-        _ => Bits { width: 0, value: 0 },
+        Node::Intersection(n) => Bits {
+            width: 5,
+            value: 24 + (wide(n) - 1),
+        },
     }
 }
 
