@@ -1,28 +1,28 @@
 // One generated case given to the engine and to the second evaluator: both stored forms written and read back, a run, the run
 // broken off and resumed, and the program's list.
+pub mod evaluated;
 mod rows;
 mod stored;
+pub mod totals;
 
 use cases::Bytes;
 use cases::Calls;
 use cases::Lists;
 use cases::first_bytes;
 use cases::first_numbers;
+pub use rows::all_64;
 use rows::are_joined;
-use rows::are_members;
 use rows::are_places;
+pub use rows::hold;
 use rows::last_bytes;
 use rows::last_numbers;
-use rows::same_replies;
 use stored::Delivery;
 use stored::Packed;
 
-// What a lent reply holds before a run.
-const MARK: u64 = 12297829382473034410;
+// What a lent reply holds before a run, and a lent number.
+pub const MARK: u64 = 12297829382473034410;
 
-const MARK_32: u32 = 2863311530;
-
-const FINISHED: u64 = 4294967298;
+pub const MARK_32: u32 = 2863311530;
 
 // What came out differently, 0 where nothing did, and what the engine's run handed back.
 pub struct Verdict {
@@ -89,24 +89,20 @@ fn run_both(
         arguments,
         &mut replies[0..n],
     );
-    let mut others = [MARK; 32];
-    let other = evaluator::answer(
+    let d = evaluated::run(
         numbers,
         ends,
         packed,
         bookmark,
         codes,
         arguments,
-        &mut others[0..n],
+        n,
+        r.number,
+        r.bookmark,
+        rows::all_32(&replies),
     );
-    if r.number != other.number {
-        return failed(NUMBER);
-    }
-    if !same_replies(&replies, &others) {
-        return failed(REPLIES);
-    }
-    if r.bookmark != other.bookmark {
-        return failed(BOOKMARK);
+    if d.what != 0 {
+        return failed(d.what);
     }
     let places = r.places;
     if !are_places(places, bounds(r.number, numbers, ends, packed), r.moves) {
@@ -163,31 +159,11 @@ fn breaks(
     accepted && placed && second.bookmark == last && are_joined(whole, &one, &two, k)
 }
 
-// Whether the program's work lists every member that the evaluator draws by next, nothing behind them, and its moves are those of a
-// run of a next for each and one more; or is refused by the evaluator's number, with its row as it was.
-fn is_listed(numbers: &[u32], ends: &[u32], packed: &[u8], input: &[u8]) -> bool {
-    let mut members = [MARK_32; 512];
-    let listed = listing::list_members(input, &mut members);
-    if !rows::hold(&members, listed.count, MARK_32) {
-        return false;
-    }
+// How far the readers move in a run of so many nexts, at most 513.
+fn moves_of(numbers: &[u32], ends: &[u32], packed: &[u8], nexts: usize) -> u32 {
     let codes = [0u8; 513];
     let zeros = [0u32; 513];
-    let nexts = listed.count % 513 + 1;
     let mut replies = [MARK; 513];
-    let drawn = evaluator::answer(
-        numbers,
-        ends,
-        packed,
-        0,
-        first_bytes(&codes, nexts),
-        first_numbers(&zeros, nexts),
-        &mut replies,
-    );
-    if drawn.number != 0 {
-        return listed.number == drawn.number && listed.count == 0 && listed.moves == 0;
-    }
-    let same = are_members(&replies, first_numbers(&members, listed.count), FINISHED);
     let r = engine::run(
         numbers,
         ends,
@@ -197,7 +173,26 @@ fn is_listed(numbers: &[u32], ends: &[u32], packed: &[u8], input: &[u8]) -> bool
         first_numbers(&zeros, nexts),
         &mut replies,
     );
-    listed.number == 0 && same && r.moves == listed.moves
+    r.moves
+}
+
+// Whether the program's work lists every member that the evaluator draws by next, nothing behind them, and its moves are those of a
+// run of a next for each and one more; or is refused by the evaluator's number, with its row as it was.
+fn is_listed(numbers: &[u32], ends: &[u32], packed: &[u8], input: &[u8]) -> bool {
+    let mut members = [MARK_32; 512];
+    let listed = listing::list_members(input, &mut members);
+    let count = listed.count;
+    if !hold(&members, count, MARK_32) {
+        return false;
+    }
+    let d = evaluated::list(numbers, ends, packed, 512, listed.number, count, &members);
+    if d.what != 0 {
+        return false;
+    }
+    if listed.number != 0 {
+        return count == 0 && listed.moves == 0;
+    }
+    listed.moves == moves_of(numbers, ends, packed, count % 513 + 1)
 }
 
 // The program's input, the expression's length, the expression and the delivery, and whether it is listed.
@@ -300,7 +295,7 @@ pub fn inputs(case: u64, damaged: bool) -> Made {
 }
 
 // One case, all of it to be accepted.
-pub fn compare(case: u64) -> Verdict {
+fn compare(case: u64) -> Verdict {
     let l = cases::lists(case);
     let packed = packed_of(case, l.count);
     let x = packed.expression;
@@ -351,7 +346,7 @@ fn lists_damaged(case: u64, expression: &[u8]) -> bool {
 }
 
 // One case damaged: mostly to be refused, and by the same number.
-pub fn compare_damaged(case: u64) -> Verdict {
+fn compare_damaged(case: u64) -> Verdict {
     let made = inputs(case, true);
     let x = made.expression;
     let bytes = x.bytes;
@@ -378,4 +373,12 @@ pub fn compare_damaged(case: u64) -> Verdict {
         run_numbers,
         room_of(case, c.count),
     )
+}
+
+// One case, as it is made or damaged.
+pub fn compare_case(case: u64, damaged: bool) -> Verdict {
+    if damaged {
+        return compare_damaged(case);
+    }
+    compare(case)
 }

@@ -1,7 +1,8 @@
 // Rows compared and copied.
+use crate::MARK;
 ghost use Prim.Native.Nat.{_<_};
 
-fn wide(x: u32) -> u64 {
+pub fn wide(x: u32) -> u64 {
     x as u64
 }
 
@@ -26,13 +27,28 @@ pub fn last_numbers(row: &[u32], from: usize) -> &[u32] {
     row
 }
 
-pub fn same_replies(a: &[u64; 32], b: &[u64; 32]) -> bool {
-    for i in 0..32usize {
-        if a[i] != b[i] {
-            return false;
+// A reply row of which a part was lent, whole.
+pub fn all_32(row: &[u64; 32]) -> &[u64] {
+    row
+}
+
+pub fn all_64(row: &[u64; 64]) -> &[u64] {
+    row
+}
+
+// How many replies at the front of one row are those of another.
+pub fn agreeing(a: &[u64], b: &[u64]) -> usize {
+    for i in 0..a.len() {
+        if a[i] != element(b, i) {
+            return i;
         }
     }
-    true
+    a.len()
+}
+
+// An element of a reply row, the mark behind its end.
+pub fn element(row: &[u64], i: usize) -> u64 {
+    if i < row.len() { row[i] } else { MARK }
 }
 
 pub fn same_numbers(a: &[u32], b: &[u32]) -> bool {
@@ -57,17 +73,14 @@ pub fn hold(row: &[u32], from: usize, mark: u32) -> bool {
     true
 }
 
-// Whether a reply row begins with these members, and the reply behind them is this one.
-pub fn are_members(replies: &[u64], members: &[u32], behind: u64) -> bool {
-    if replies.len() <= members.len() {
-        return false;
-    }
+// How many members at the front of a row are the replies of another.
+pub fn agreeing_members(replies: &[u64], members: &[u32]) -> usize {
     for i in 0..members.len() {
-        if replies[i] != wide(members[i]) {
-            return false;
+        if element(replies, i) != wide(members[i]) {
+            return i;
         }
     }
-    replies[members.len()] == behind
+    members.len()
 }
 
 fn joined(first: &[u64; 32], second: &[u64; 32], k: usize, i: usize) -> u64 {

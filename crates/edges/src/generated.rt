@@ -6,81 +6,8 @@ use cases::Lists;
 use cases::first_bytes;
 use cases::first_numbers;
 use compare::Verdict;
-ghost use Prim.Native.Nat.{_<_};
-
-// What the cases of one kind came to: the calls' replies by kind, the runs' moves, the runs by their number.
-struct Totals {
-    differ: u64,
-    members: u64,
-    finished: u64,
-    yes: u64,
-    no: u64,
-    unknown: u64,
-    moves: u64,
-    numbers: [u64; 15],
-}
-
-fn none() -> Totals {
-    Totals {
-        differ: 0,
-        members: 0,
-        finished: 0,
-        yes: 0,
-        no: 0,
-        unknown: 0,
-        moves: 0,
-        numbers: [0; 15],
-    }
-}
-
-fn more(n: u64, by: u64) -> u64 {
-    std::num::wrapping_add_u64(n, by)
-}
-
-// One reply more; a place behind the last reply holds another number.
-fn with_reply(t: Totals, reply: u64) -> Totals {
-    let mut sum = t;
-    if reply < 4294967296 {
-        sum.members = more(t.members, 1);
-        return sum;
-    }
-    match reply {
-        4294967296 => sum.no = more(t.no, 1),
-        4294967297 => sum.yes = more(t.yes, 1),
-        4294967298 => sum.finished = more(t.finished, 1),
-        4294967299 => sum.unknown = more(t.unknown, 1),
-        _ => {}
-    }
-    sum
-}
-
-fn with_replies(t: Totals, replies: [u64; 32]) -> Totals {
-    let mut sum = t;
-    let mut i: usize = 0;
-    while i < 32 {
-        sum = with_reply(sum, replies[i]);
-        i += 1;
-    }
-    sum
-}
-
-fn index(number: u32) -> usize
-    ensures { λ r. ⌜ r < 15 ⌝ }
-{
-    (number % 15) as usize
-}
-
-fn with_run(t: Totals, v: Verdict) -> Totals {
-    let replies = v.replies;
-    let mut sum = with_replies(t, replies);
-    sum.moves = more(t.moves, text::wide_32(v.moves));
-    let at = index(v.number);
-    sum.numbers[at] = more(t.numbers[at], 1);
-    if v.differs != 0 {
-        sum.differ = more(t.differ, 1);
-    }
-    sum
-}
+use compare::totals;
+use compare::totals::Totals;
 
 // What came out differently, by the number that `compare` gives it.
 fn what(differs: u32) {
@@ -142,15 +69,8 @@ fn show(case: u64, damaged: bool, differs: u32) {
     text::end();
 }
 
-fn verdict(case: u64, damaged: bool) -> Verdict {
-    if damaged {
-        return compare::compare_damaged(case);
-    }
-    compare::compare(case)
-}
-
 fn compared(case: u64, damaged: bool) -> Verdict {
-    let v = verdict(case, damaged);
+    let v = compare::compare_case(case, damaged);
     if v.differs != 0 {
         show(case, damaged, v.differs);
     }
@@ -159,10 +79,10 @@ fn compared(case: u64, damaged: bool) -> Verdict {
 
 // The cases 0 to `count`, that one excluded.
 fn sum(count: u64, damaged: bool) -> Totals {
-    let mut t = none();
+    let mut t = totals::none();
     let mut case: u64 = 0;
     while case < count {
-        t = with_run(t, compared(case, damaged));
+        t = totals::with_run(t, compared(case, damaged));
         case += 1;
     }
     t

@@ -1,34 +1,31 @@
 // A run as one case: what is handed in, each call with its reply, and what is handed back.
 use crate::given;
 use crate::marks;
+use crate::remarks;
+use crate::remarks::Line;
 use crate::text;
+use compare::all_64;
+use compare::evaluated;
 use model::RunResult;
 
 // A run of lists, an expression in row form and calls.
-pub fn run_from(
-    cases: &mut u32,
-    name: &[u8],
-    lists: &[u64],
-    nodes: &[u8],
-    bookmark: u64,
-    calls: &[u64],
-) {
+pub fn run_from(name: &[u8], lists: &[u64], nodes: &[u8], bookmark: u64, calls: &[u64]) -> Line {
     let given_numbers = given::numbers(lists);
     let number_row = given_numbers.row;
     let given_ends = given::ends(lists);
     let end_row = given_ends.row;
     let numbers = marks::front_32(&number_row, given_numbers.count);
     let ends = marks::front_32(&end_row, given_ends.count);
-    text::begin(cases, name);
+    text::put(name);
     text::put(b",");
     text::lists(numbers, ends);
     if bookmark != 0 {
         text::with(b", bookmark ", bookmark);
     }
-    of_calls(numbers, ends, nodes, bookmark, calls);
+    of_calls(numbers, ends, nodes, bookmark, calls)
 }
 
-fn of_calls(numbers: &[u32], ends: &[u32], nodes: &[u8], bookmark: u64, calls: &[u64]) {
+fn of_calls(numbers: &[u32], ends: &[u32], nodes: &[u8], bookmark: u64, calls: &[u64]) -> Line {
     let given_codes = given::codes(calls);
     let code_row = given_codes.row;
     let given_arguments = given::arguments(calls);
@@ -38,12 +35,11 @@ fn of_calls(numbers: &[u32], ends: &[u32], nodes: &[u8], bookmark: u64, calls: &
     let codes = marks::front_8(&code_row, given_codes.count);
     let arguments = marks::front_32(&argument_row, given_arguments.count);
     let packed = marks::front_8(&packed_row, given_packed.count);
-    outcome(numbers, ends, packed, bookmark, codes, arguments, 64);
+    outcome(numbers, ends, packed, bookmark, codes, arguments, 64)
 }
 
 // A run of the rows themselves, with a reply row of so many elements, at most 64.
 pub fn run_rows(
-    cases: &mut u32,
     name: &[u8],
     numbers: &[u32],
     ends: &[u32],
@@ -52,8 +48,8 @@ pub fn run_rows(
     codes: &[u8],
     arguments: &[u32],
     room: usize,
-) {
-    text::begin(cases, name);
+) -> Line {
+    text::put(name);
     text::put(b", run");
     text::lent(numbers, ends);
     text::put(b", packed");
@@ -64,10 +60,10 @@ pub fn run_rows(
     text::put(b", arguments");
     text::numbers(arguments);
     text::with(b", replies ", text::wide(room));
-    outcome(numbers, ends, packed, bookmark, codes, arguments, room);
+    outcome(numbers, ends, packed, bookmark, codes, arguments, room)
 }
 
-// The run, the rest of its line, and whether it left the reply row behind its replies alone.
+// The run, by the engine and by the evaluator, and the rest of its line.
 fn outcome(
     numbers: &[u32],
     ends: &[u32],
@@ -76,7 +72,7 @@ fn outcome(
     codes: &[u8],
     arguments: &[u32],
     room: usize,
-) {
+) -> Line {
     let mut replies = [text::MARK_64; 64];
     let n = room % 65;
     let ran = engine::run(
@@ -88,17 +84,38 @@ fn outcome(
         arguments,
         &mut replies[0..n],
     );
+    came_back(
+        ran,
+        node_count(packed, ends.len()),
+        codes,
+        arguments,
+        &replies,
+    );
+    remarks::end(evaluated::run(
+        numbers,
+        ends,
+        packed,
+        bookmark,
+        codes,
+        arguments,
+        n,
+        ran.number,
+        ran.bookmark,
+        all_64(&replies),
+    ))
+}
+
+// What the engine handed back, and whether it left the reply row behind its replies alone.
+fn came_back(ran: RunResult, nodes: usize, codes: &[u8], arguments: &[u32], replies: &[u64; 64]) {
     text::put(b": ");
     if ran.number == 0 {
-        let nodes = node_count(packed, ends.len());
-        replied(codes, arguments, &replies);
+        replied(codes, arguments, replies);
         handed_back(ran, nodes);
-        changed(&replies, codes.len());
-    } else {
-        text::refused(ran.number, other_parts_zero(ran));
-        changed(&replies, 0);
+        changed(replies, codes.len());
+        return;
     }
-    text::end();
+    text::refused(ran.number, other_parts_zero(ran));
+    changed(replies, 0);
 }
 
 fn changed(replies: &[u64; 64], from: usize) {
@@ -144,7 +161,7 @@ fn each_call(codes: &[u8], arguments: &[u32], replies: &[u64]) {
             call(i, codes[i], arguments[i]);
         }
         if i < replies.len() {
-            reply(replies[i]);
+            text::reply(replies[i]);
         }
     }
 }
@@ -161,21 +178,6 @@ fn call(i: usize, code: u8, d: u32) {
         _ => text::with(b"code ", text::wide_8(code)),
     }
     text::put(b" -> ");
-}
-
-// A reply by the paper's numbers for it; any other number is no reply.
-fn reply(r: u64) {
-    if r < 4294967296 {
-        text::number(r);
-        return;
-    }
-    match r {
-        4294967296 => text::put(b"no"),
-        4294967297 => text::put(b"yes"),
-        4294967298 => text::put(b"finished"),
-        4294967299 => text::put(b"unknown"),
-        _ => text::with(b"no reply, but ", r),
-    }
 }
 
 // The bookmark, the moves, and the places of the nodes that there are.

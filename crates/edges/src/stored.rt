@@ -4,11 +4,11 @@ use crate::text;
 use model::DecodeResult;
 
 // A packed expression to its row form, in a row of so many nodes, at most 64.
-pub fn unpack(cases: &mut u32, name: &[u8], bytes: &[u8], lists: usize, room: usize) {
+pub fn unpack(name: &[u8], bytes: &[u8], lists: usize, room: usize) {
     let mut row = [text::MARK; 80];
     let n = room % 65;
     let w = forms::unpack_expression(bytes, lists, &mut row[0..n]);
-    text::begin(cases, name);
+    text::put(name);
     text::put(b", unpack");
     text::bytes(bytes);
     with_lists(lists, room);
@@ -26,11 +26,11 @@ fn written_nodes(number: u32, count: usize, row: &[u8; 80]) {
 }
 
 // A row to its packed form, in so many bytes, at most 64.
-pub fn pack(cases: &mut u32, name: &[u8], nodes: &[u8], lists: usize, room: usize) {
+pub fn pack(name: &[u8], nodes: &[u8], lists: usize, room: usize) {
     let mut row = [text::MARK; 80];
     let n = room % 65;
     let w = forms::pack_expression(nodes, lists, &mut row[0..n]);
-    text::begin(cases, name);
+    text::put(name);
     text::put(b", pack");
     text::nodes(nodes);
     with_lists(lists, room);
@@ -38,11 +38,11 @@ pub fn pack(cases: &mut u32, name: &[u8], nodes: &[u8], lists: usize, room: usiz
 }
 
 // Lists as a delivery, in so many bytes, at most 64.
-pub fn encode(cases: &mut u32, name: &[u8], numbers: &[u32], ends: &[u32], room: usize) {
+pub fn encode(name: &[u8], numbers: &[u32], ends: &[u32], room: usize) {
     let mut row = [text::MARK; 80];
     let n = room % 65;
     let w = encode::encode_delivery(numbers, ends, &mut row[0..n]);
-    text::begin(cases, name);
+    text::put(name);
     text::put(b", encode");
     text::lent(numbers, ends);
     into(room);
@@ -77,13 +77,13 @@ fn changed(row: &[u8; 80], from: usize) {
 }
 
 // A delivery, into so many numbers and so many ends, at most 64 each.
-pub fn decode(cases: &mut u32, name: &[u8], bytes: &[u8], number_room: usize, end_room: usize) {
+pub fn decode(name: &[u8], bytes: &[u8], number_room: usize, end_room: usize) {
     let mut numbers = [text::MARK_32; 80];
     let mut ends = [text::MARK_32; 80];
     let n = number_room % 65;
     let k = end_room % 65;
     let d = decode::decode_delivery(bytes, &mut numbers[0..n], &mut ends[0..k]);
-    text::begin(cases, name);
+    text::put(name);
     text::put(b", decode");
     text::bytes(bytes);
     into_both(number_room, end_room);
@@ -108,14 +108,17 @@ fn delivered(d: DecodeResult, numbers: &[u32; 80], ends: &[u32; 80]) {
     } else {
         text::refused(d.number, d.lists == 0 && d.numbers == 0);
     }
-    text::rows(marks::hold_32(numbers, d.numbers) && marks::hold_32(ends, d.lists));
+    text::rows(
+        compare::hold(numbers, d.numbers, text::MARK_32)
+            && compare::hold(ends, d.lists, text::MARK_32),
+    );
     text::end();
 }
 
 // The tests of lent lists.
-pub fn test(cases: &mut u32, name: &[u8], numbers: &[u32], ends: &[u32]) {
+pub fn test(name: &[u8], numbers: &[u32], ends: &[u32]) {
     let number = lists::test_lists(numbers, ends);
-    text::begin(cases, name);
+    text::put(name);
     text::put(b", test");
     text::lent(numbers, ends);
     text::put(b": ");
@@ -128,10 +131,10 @@ pub fn test(cases: &mut u32, name: &[u8], numbers: &[u32], ends: &[u32]) {
 }
 
 // The part of one list, and where it stands.
-pub fn part(cases: &mut u32, name: &[u8], numbers: &[u32], ends: &[u32], k: usize) {
+pub fn part(name: &[u8], numbers: &[u32], ends: &[u32], k: usize) {
     let span = lists::list_span(numbers, ends, k);
     let part = lists::list_part(numbers, ends, k);
-    text::begin(cases, name);
+    text::put(name);
     text::with(b", list ", text::wide(k));
     text::put(b" of");
     text::lent(numbers, ends);

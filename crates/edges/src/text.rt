@@ -3,9 +3,9 @@
 // What every lent element holds before a call, by its width. No case hands these numbers in.
 pub const MARK: u8 = 170;
 
-pub const MARK_32: u32 = 2863311530;
+pub const MARK_32: u32 = compare::MARK_32;
 
-pub const MARK_64: u64 = 12297829382473034410;
+pub const MARK_64: u64 = compare::MARK;
 
 // An index, a place and a byte as the number that is printed.
 pub fn wide(x: usize) -> u64 {
@@ -38,12 +38,6 @@ pub fn with(words: &[u8], n: u64) {
     number(n);
 }
 
-// The line of one more case.
-pub fn begin(cases: &mut u32, name: &[u8]) {
-    *cases = std::num::wrapping_add_u32(*cases, 1);
-    put(name);
-}
-
 pub fn end() {
     put(b"\n");
 }
@@ -63,6 +57,21 @@ pub fn refused(n: u32, others_are_zero: bool) {
     with(b"refused ", wide_32(n));
     if !others_are_zero {
         put(b", with a part that is not 0");
+    }
+}
+
+// A reply by the paper's numbers for it; any other number is no reply.
+pub fn reply(r: u64) {
+    if r < 4294967296 {
+        number(r);
+        return;
+    }
+    match r {
+        4294967296 => put(b"no"),
+        4294967297 => put(b"yes"),
+        4294967298 => put(b"finished"),
+        4294967299 => put(b"unknown"),
+        _ => with(b"no reply, but ", r),
     }
 }
 

@@ -6,10 +6,10 @@ use Rattle.edges.proofs.script.lines.Statement.{statement}
 use Rattle.edges.proofs.script.lines.Tie as tie
 
 abbrev Inv-loop : tie.InvT-loop
-Inv-loop cases₀ s start₀ count₀ i₀ i-end cases start count i = i-end ≤ length s
+Inv-loop s counts₀ start₀ count₀ i₀ i-end counts start count i = i-end ≤ length s
 
 abbrev μ-loop : tie.MeasureT-loop
-μ-loop cases₀ s start₀ count₀ i₀ i-end cases start count i = i-end - i
+μ-loop s counts₀ start₀ count₀ i₀ i-end counts start count i = i-end - i
 
 loop-holds : tie.Need-loop-holds Inv-loop μ-loop
 loop-holds c = search needs
@@ -20,8 +20,8 @@ shared-slice-read-if1 c = search needs
 part-requires : tie.Need-part-requires Inv-loop μ-loop
 part-requires c κs = search needs
 
-line-requires : tie.Need-line-requires Inv-loop μ-loop
-line-requires c κs = search needs
+with-line-requires : tie.Need-with-line-requires Inv-loop μ-loop
+with-line-requires c κs = search needs
 
 add-start : tie.Need-add-start Inv-loop μ-loop
 add-start c = search needs
@@ -41,8 +41,8 @@ loop-again c = search needs
 part-requires-2 : tie.Need-part-requires-2 Inv-loop μ-loop
 part-requires-2 c κs = search needs
 
-line-requires-2 : tie.Need-line-requires-2 Inv-loop μ-loop
-line-requires-2 c κs = search needs
+with-line-requires-2 : tie.Need-with-line-requires-2 Inv-loop μ-loop
+with-line-requires-2 c κs = search needs
 
 returns : tie.Need-returns Inv-loop μ-loop
 returns c = search needs
@@ -56,12 +56,12 @@ lines-spec =
     loop-holds
     shared-slice-read-if1
     part-requires
-    line-requires
+    with-line-requires
     add-start
     wrapping-add-u64-requires
     add-i
     loop-less
     loop-again
     part-requires-2
-    line-requires-2
+    with-line-requires-2
     returns)

@@ -3,8 +3,8 @@ use Prim.Native.Nat.{_-_, _≤_}
 use native.Mathlib.Omega.{arith}
 use borrow.Author.Needs.{needs}
 use lib.ListN.{length}
-use Rattle.edges.proofs.generated.with_replies.Statement.{statement}
-use Rattle.edges.proofs.generated.with_replies.Tie as tie
+use Rattle.compare.proofs.totals.with_replies.Statement.{statement}
+use Rattle.compare.proofs.totals.with_replies.Tie as tie
 
 abbrev Inv-loop : tie.InvT-loop
 Inv-loop replies sum₀ i₀ sum i = i ≤ 32

@@ -1,14 +1,15 @@
--- `same_replies` is safe and ends. The measure is how many replies are left. Assumes nothing.
+-- `agreeing` is safe and ends. The measure is how many replies are left. Assumes nothing.
 use Prim.Native.Nat.{_-_, _≤_}
 use borrow.Author.Needs.{needs}
-use Rattle.compare.proofs.rows.same_replies.Statement.{statement}
-use Rattle.compare.proofs.rows.same_replies.Tie as tie
+use lib.ListN.{length}
+use Rattle.compare.proofs.rows.agreeing.Statement.{statement}
+use Rattle.compare.proofs.rows.agreeing.Tie as tie
 
 abbrev Inv-loop : tie.InvT-loop
-Inv-loop a b i₀ i = i ≤ 32
+Inv-loop a b i₀ i-end i = i ≤ length a
 
 abbrev μ-loop : tie.MeasureT-loop
-μ-loop a b i₀ i = 32 - i
+μ-loop a b i₀ i-end i = length a - i
 
 loop-holds : tie.Need-loop-holds Inv-loop μ-loop
 loop-holds c = search needs
@@ -16,14 +17,11 @@ loop-holds c = search needs
 mul-if1 : tie.Need-mul-if1 Inv-loop μ-loop
 mul-if1 c = search needs
 
-element-copy-out-if1 : tie.Need-element-copy-out-if1 Inv-loop μ-loop
-element-copy-out-if1 c = search needs
+shared-slice-read-if1 : tie.Need-shared-slice-read-if1 Inv-loop μ-loop
+shared-slice-read-if1 c = search needs
 
-mul-if1-2 : tie.Need-mul-if1-2 Inv-loop μ-loop
-mul-if1-2 c = search needs
-
-element-copy-out-if1-2 : tie.Need-element-copy-out-if1-2 Inv-loop μ-loop
-element-copy-out-if1-2 c = search needs
+element-requires : tie.Need-element-requires Inv-loop μ-loop
+element-requires c κs = search needs
 
 returns : tie.Need-returns Inv-loop μ-loop
 returns c = search needs
@@ -40,17 +38,16 @@ loop-again c = search needs
 returns-2 : tie.Need-returns-2 Inv-loop μ-loop
 returns-2 c = search needs
 
-pub same-replies-spec : {M : Type 1} → statement M
-same-replies-spec =
+pub agreeing-spec : {M : Type 1} → statement M
+agreeing-spec =
     tie.close
     (tie.spec
     Inv-loop
     μ-loop
     loop-holds
     mul-if1
-    element-copy-out-if1
-    mul-if1-2
-    element-copy-out-if1-2
+    shared-slice-read-if1
+    element-requires
     returns
     add-i
     loop-less
