@@ -38,8 +38,13 @@ fn number(n: u64) {
     text::with(b"refused ", n);
 }
 
+// A reply, or an element behind the replies, which keeps its mark.
 fn reply(at: usize, r: u64) {
     text::with(b"reply ", text::wide(at));
+    if r == text::MARK_64 {
+        text::put(b" is left alone");
+        return;
+    }
     text::put(b" is ");
     text::reply(r);
 }
