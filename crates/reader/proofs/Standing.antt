@@ -5,7 +5,6 @@ use mathlib.Core.List.{List, [], _∷_}
 use Prim.Native.Nat.{ℕ, suc, _+_, _≤_, _<_}
 use native.Mathlib.Omega.{arith}
 use lib.ListN.{length, getD}
-use borrow.Author.Tests.{le-leb}
 use Rattle.model.specs.declared.Node.{Node}
 use Rattle.model.specs.declared.Node.the-variants.{Leaf, Difference, Union, Intersection}
 use Rattle.model.specs.Outcome.{accepted}
@@ -66,11 +65,6 @@ pub size-pos : (t : Tree) → 1 ≤ size t
 size-pos t = omega (arith, size-below t)
 
 -- ---- which tree it is, by its root's node
-
--- "0 to 31 a list"
-pub list-byte : (b : ℕ) → b < 32 → node-of b ≡ accepted (Leaf b)
-unfolding node-of
-list-byte b h = simp (le-leb b 31 (omega arith))
 
 pub leaf-is : (t : Tree) (k : ℕ) → kind t ≡ Leaf k → t ≡ leaf k
 leaf-is (leaf j) k e = cc e
