@@ -1,6 +1,6 @@
-// "To check D": the check of a node and the check over its member nodes call each other. With every call the remaining nodes fall. Every
-// check takes the readers by value and hands them back by value with its reply; a member node that is a list is read in the
-// operator's own copy, as in a seek.
+// "To check D": the check of a node and the check over its member nodes call each other. With every step down to a member node fewer
+// nodes remain. Every check takes the readers by value and hands them back by value with its reply; a member node that is a list is
+// read in the operator's own copy, as in a seek.
 ghost use mathlib.Core.Path.{_≡_};
 ghost use lib.ListN.{length};
 ghost use Rattle.reader.specs.Rows.{Standing, Standing-each, Ready};
@@ -17,8 +17,8 @@ pub struct CheckResult {
     pub yes: bool,
 }
 
-// The check of a node: "a reader seeks D, yes if it answers D"; of an operator that over its member nodes. A union checks until a yes, an
-// intersection until a no, and so does a difference, which turns its second's reply round.
+// The check of a node: "a reader seeks D, yes if it answers D"; an operator checks its member nodes. A union does so until a yes, an
+// intersection until a no, and a difference too, which turns its second's reply round.
 pub fn check(
     numbers: &[u32],
     ends: &[u32],
@@ -80,8 +80,8 @@ pub fn check(
     )
 }
 
-// "A union checks in order until a yes, an intersection until a no": member nodes in order, until one says so. "A difference checks its
-// first, and on yes its second, whose reply it turns round": where replies are turned, the last one is.
+// Member nodes in order, until one says so: "A union checks in order until a yes, an intersection until a no". "A difference checks its
+// first, and on yes its second, whose reply it turns round": where replies are turned, only the last one is.
 fn check_members(
     numbers: &[u32],
     ends: &[u32],

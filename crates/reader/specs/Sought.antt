@@ -2,7 +2,7 @@
 use mathlib.Core.Path.{_≡_}
 use mathlib.Core.Bool.{true, false}
 use mathlib.Core.List.{List, []}
-use Prim.Native.Nat.{ℕ, _+_, _≤_}
+use Prim.Native.Nat.{ℕ, _+_, _≤_, _<_}
 use lib.Dec.{ltb}
 use lib.ListN.{length, getD, set}
 use Rattle.model.specs.declared.Node.the-variants.{Leaf}
@@ -66,5 +66,5 @@ pub record Named (numbers ends : List ℕ) (byte : ℕ) (Of : List ℕ → Type 
 -- what a member node comes to, by its byte: its list's reader stays, or moves; or it is no list
 abbrev pub Reads : (numbers ends : List ℕ) → (byte place e : ℕ) → Member → Type 0
 Reads numbers ends byte place e (Still x) = Named numbers ends byte (λ l. Stays l place e x)
-Reads numbers ends byte place e (Moved r) = Named numbers ends byte (λ l. Read l place e r)
+Reads numbers ends byte place e (Moved r) = (0 < r .moves) × Named numbers ends byte (λ l. Read l place e r)
 Reads numbers ends byte place e Operator = (k : ℕ) → node-of byte ≡ accepted (Leaf k) → ⊥

@@ -37,15 +37,15 @@ pub struct ReadResult {
     pub place: u16,
 }
 
-// What a member node comes to: a list is read at once, and its reader stays, with this answer, or moves; an operator is left to the
-// seek or the check of that node.
+// What reading a member node comes to: where it is a list, its reader stays, with this answer, or moves. Any other node is left to
+// its own seek or check.
 pub enum Member {
     Still(u64),
     Moved(ReadResult),
     Operator,
 }
 
-// A number beside FINISHED.
+// A number of 32 bits as an answer.
 pub fn wide(x: u32) -> u64
     ensures { λ r. ⌜ r ≡ x ⌝ }
 {
@@ -59,7 +59,7 @@ fn index(x: u16) -> usize
     x as usize
 }
 
-// An index inside a list as a place.
+// An index up to a list's end as a place.
 fn place_of(x: usize) -> u16
     requires { ⌜ x ≤ 65535 ⌝ }
     ensures { λ r. ⌜ r ≡ x ⌝ }
@@ -67,7 +67,7 @@ fn place_of(x: usize) -> u16
     x as u16
 }
 
-// So many moves.
+// A count of moves within one list.
 fn moves_of(x: usize) -> u32
     requires { ⌜ x ≤ 65535 ⌝ }
     ensures { λ r. ⌜ r ≡ x ⌝ }
@@ -117,7 +117,7 @@ pub fn read_list(numbers: &[u32], ends: &[u32], k: usize, place: u16, to: u64) -
     }
 }
 
-// The member node of a byte: "0 to 31 a list", whose reader steps from its place.
+// The member node of a byte: "0 to 31 a list", whose reader steps from its place; any other byte is no list.
 pub fn read_member(numbers: &[u32], ends: &[u32], byte: u8, place: u16, to: u64) -> Member
     requires { ⌜ lists-of (now numbers) (now ends) ≡ accepted (lists-from (now numbers) 0 (now ends)) ⌝ }
     requires { ⌜ ((k : ℕ) → node-of byte ≡ accepted (Leaf k) → k < length (now ends)) × (to ≤ top) ⌝ }
@@ -150,7 +150,7 @@ fn members_at(b: u8) -> u8
     expression::members_of(node)
 }
 
-// Behind so many trees, the first at a node, by what is behind each node.
+// The node behind so many trees that stand one after the other, by the table of what is behind each node.
 fn end_of(behind: &[usize; 48], first: usize, members: u8) -> usize
     ensures { λ r. ⌜ r ≡ siblings (now (behind .entry)) members first ⌝ }
 {

@@ -1,7 +1,7 @@
-// "To seek to E": the seek of a node and the seeks over its member nodes call each other. With every call the remaining nodes
-// fall; difference and intersection repeat at a higher number each time. Every seek takes the readers by value and hands them back by
-// value with its answer. A member node that is a list is read in the operator's own copy of the readers: its reader takes one place
-// and hands back the new one, and where it stays, nothing is written.
+// "To seek to E": the seek of a node and the seeks over its member nodes call each other. With every step down to a member node fewer
+// nodes remain; difference and intersection repeat at a higher number each time. Every seek takes the readers by value and hands them
+// back by value with its answer. A member node that is a list is read in the operator's own copy of the readers: its reader takes one
+// place and hands back the new one, and where it stays, nothing is written.
 ghost use mathlib.Core.Path.{_≡_};
 ghost use mathlib.Core.Bool.{_&&_, not};
 ghost use Prim.Native.Nat.{_≤_};
@@ -20,7 +20,7 @@ use reader::Member;
 use reader::Readers;
 use reader::SeekResult;
 
-// The seek of a node. Each kind returns by itself, so that what it hands back is copied once.
+// The seek of a node, by its kind. Each arm returns at once: what it hands back is then copied only once.
 pub fn seek(
     numbers: &[u32],
     ends: &[u32],
@@ -71,7 +71,7 @@ pub fn seek(
     }
 }
 
-// "Seek the first to E; finished ends it. Seek the second to that answer. If equal, E becomes the answer plus 1 and the step
+// "seek the first to E; finished ends it. Seek the second to that answer. If equal, E becomes the answer plus 1 and the step
 // repeats; else the first's answer holds".
 fn seek_difference(
     numbers: &[u32],
@@ -141,7 +141,7 @@ fn seek_difference(
     SeekResult { readers, answer: x }
 }
 
-// "Seek every member node to E, in order. The least answer holds; finished if all are": finished is above every number.
+// "seek every member node to E, in order. The least answer holds; finished if all are": finished is above every number.
 fn seek_union(
     numbers: &[u32],
     ends: &[u32],
@@ -194,14 +194,14 @@ fn seek_union(
     }
 }
 
-// "An answer above the candidate becomes the candidate, and unless it came from the first, begin again at the first".
+// Whether an answer has it "begin again at the first": it is above the candidate, and did not come from the first.
 fn begins_again(candidate: u64, x: u64, first: usize, at: usize) -> bool
     ensures { λ r. ⌜ r ≡ ltb candidate x && not (eqb at first) ⌝ }
 {
     if candidate < x { at != first } else { false }
 }
 
-// "The candidate is E. Seek member nodes in order to it. Finished anywhere is finished. [..] When the last has answered the
+// "the candidate is E. Seek member nodes in order to it. Finished anywhere is finished. [..] When the last has answered the
 // candidate, that is the answer".
 fn seek_intersection(
     numbers: &[u32],

@@ -206,7 +206,7 @@ module _ (t : ℕ) where
       let q = m .before .before in
       let l = q .before .before .before in
       let a = called l in
-      omega (arith, moves-fit (a .pre .1 .0) (l .before .loop .at) (a .args .d) (d-low l) _ (l .before .loop .inv .0) _ (node-there l) (rw (m .member2 .given .1, l .before .before .wide .ensures) at (q .read-member .ensures)))
+      omega (arith, moves-fit (a .pre .1 .0) (l .before .loop .at) (a .args .d) (d-low l) _ (l .before .loop .inv .0) _ (node-there l) ((rw (m .member2 .given .1, l .before .before .wide .ensures) at (q .read-member .ensures)) .1))
 
   members-check-requires : M.Need-check-requires (members-calls t) (members-at t) check-members.Post Inv-loop μ-loop
   members-check-requires c κs =
@@ -223,7 +223,7 @@ module _ (t : ℕ) where
       ⊎-elim
       (λ w. rw (w .3, w .4, to) (still (a .pre .1 .0) _ _ (d-low l) _ (l .before .loop .inv .0) _ (rw (w .1 .given .1, to) at (c .before .read-member .ensures))))
       (⊎-elim
-      (λ w. rw (w .5, w .6, to) (moves (a .pre .1 .0) _ _ (d-low l) _ (l .before .loop .inv .0) _ (node-there l) (rw (w .1 .given .1, to) at (c .before .read-member .ensures))))
+      (λ w. rw (w .5, w .6, to) (moves (a .pre .1 .0) _ _ (d-low l) _ (l .before .loop .inv .0) _ (node-there l) ((rw (w .1 .given .1, to) at (c .before .read-member .ensures)) .1)))
       (λ w. rw (w .4, w .5) (w .2 .ensures)))
       (c .match .came)
 

@@ -6,6 +6,7 @@ use mathlib.Core.Logic.{inl, inr}
 use mathlib.Core.List.{[], _∷_}
 use Prim.Native.Nat.{ℕ}
 use native.Mathlib.Omega.{arith}
+use lib.Arith.{lt-of-le-ne}
 use types.Run.{OneOf}
 use Rattle.model.specs.declared.Node.{Node}
 use Rattle.model.specs.declared.Node.the-variants.{Leaf}
@@ -71,7 +72,7 @@ returns-2 c =
     record { list = r .list; named = r .named; of = stays _ _ _ _ (r .of) (c .if1 .taken) }
 
 returns-3 : tie.Need-returns-3
-returns-3 c = list-read (c .before .before)
+returns-3 c = (lt-of-le-ne (omega arith) (λ z. c .if1 .left (sym z)), list-read (c .before .before))
 
 returns-4 : tie.Need-returns-4
 returns-4 c k e = no-list (c .before .before .kind .given .0 .0) (c .match2 .keys2) k (accepted-same (sym (node-is (c .before)) ∙ e))

@@ -1,6 +1,7 @@
 -- The seek of a node, and the seeks over its member nodes, meet their contracts.
 --
--- Each call is for a node further on, so that the remaining nodes fall. Difference and intersection keep that the seek from here is the
+-- The seek of a node calls that of its kind, which calls the seeks of nodes further on: twice the remaining nodes fall, and one more
+-- for the first of these. Difference and intersection keep that the seek from here is the
 -- seek from the start, and repeat at a higher number; the loops over member nodes keep the same of the trees that are left. Assumes
 -- nothing.
 use mathlib.Core.Path.{_≡_, refl, sym, ap, subst, _∙_}
@@ -269,7 +270,7 @@ module _ (t : ℕ) where
       let q = m .before .before in
       let l = q .before .before .before in
       let a = difference-start l in
-      omega (arith, moves-fit _ _ (a .args .nodes .now) (a .args .node + 1) _ _ (l .loop .inv .2) _ (first-inside a) (rw (m .member2 .given .1) at (q .read-member .ensures)))
+      omega (arith, moves-fit _ _ (a .args .nodes .now) (a .args .node + 1) _ _ (l .loop .inv .2) _ (first-inside a) ((rw (m .member2 .given .1) at (q .read-member .ensures)) .1))
 
   difference-seek-requires : D.Need-seek-requires (from-difference t) (difference-at t) difference.Post difference-Inv difference-μ
   difference-seek-requires c κs =
@@ -285,7 +286,7 @@ module _ (t : ℕ) where
       ⊎-elim
       (λ w. rw (w .3, w .4) (still _ _ _ _ _ _ (l .loop .inv .2) _ (rw (w .1 .given .1) at (c .before .read-member .ensures))))
       (⊎-elim
-      (λ w. rw (w .4, w .5) (moves _ _ _ _ _ _ (l .loop .inv .2) _ (first-inside (difference-start l)) (rw (w .1 .given .1) at (c .before .read-member .ensures))))
+      (λ w. rw (w .4, w .5) (moves _ _ _ _ _ _ (l .loop .inv .2) _ (first-inside (difference-start l)) ((rw (w .1 .given .1) at (c .before .read-member .ensures)) .1)))
       (λ w. rw (w .4, w .5) (w .2 .ensures)))
       (c .match .came)
 
@@ -317,7 +318,7 @@ module _ (t : ℕ) where
       let q = m .before .before in
       let b = q .before .before .before in
       let a = difference-start (second-loop b) in
-      omega (arith, moves-fit _ _ (a .args .nodes .now) (getD (a .args .behind .now) (a .args .node + 1) 0) _ _ (first-step (b .before) .0 .tallied) _ (second-inside a) (rw (m .member4 .given .1) at (q .read-member2 .ensures)))
+      omega (arith, moves-fit _ _ (a .args .nodes .now) (getD (a .args .behind .now) (a .args .node + 1) 0) _ _ (first-step (b .before) .0 .tallied) _ (second-inside a) ((rw (m .member4 .given .1) at (q .read-member2 .ensures)) .1))
 
   difference-seek-requires-2 : D.Need-seek-requires-2 (from-difference t) (difference-at t) difference.Post difference-Inv difference-μ
   difference-seek-requires-2 c κs =
@@ -335,7 +336,7 @@ module _ (t : ℕ) where
       ⊎-elim
       (λ w. rw (w .3, w .4) (still _ _ _ _ _ _ held _ (rw (w .1 .given .1) at (c .before .read-member2 .ensures))))
       (⊎-elim
-      (λ w. rw (w .4, w .5) (moves _ _ _ _ _ _ held _ (second-inside (difference-start (second-loop b))) (rw (w .1 .given .1) at (c .before .read-member2 .ensures))))
+      (λ w. rw (w .4, w .5) (moves _ _ _ _ _ _ held _ (second-inside (difference-start (second-loop b))) ((rw (w .1 .given .1) at (c .before .read-member2 .ensures)) .1)))
       (λ w. rw (w .4, w .5) (w .2 .ensures)))
       (c .match2 .came)
 
@@ -434,7 +435,7 @@ module _ (t : ℕ) where
       let m = c .before .before in
       let q = m .before .before in
       let l = q .before .before .before in
-      omega (arith, moves-fit _ _ (intersection-start l .args .nodes .now) (l .before .loop .at) _ _ (l .before .loop .inv .2) _ (turn-inside l) (rw (m .member2 .given .1) at (q .read-member .ensures)))
+      omega (arith, moves-fit _ _ (intersection-start l .args .nodes .now) (l .before .loop .at) _ _ (l .before .loop .inv .2) _ (turn-inside l) ((rw (m .member2 .given .1) at (q .read-member .ensures)) .1))
 
   intersection-seek-requires : I.Need-seek-requires (from-intersection t) (intersection-at t) intersection.Post intersection-Inv intersection-μ
   intersection-seek-requires c κs =
@@ -456,7 +457,7 @@ module _ (t : ℕ) where
       ⊎-elim
       (λ w. rw (w .3, w .4) (still _ _ _ _ _ _ (l .before .loop .inv .2) _ (rw (w .1 .given .1) at (c .before .read-member .ensures))))
       (⊎-elim
-      (λ w. rw (w .4, w .5) (moves _ _ _ _ _ _ (l .before .loop .inv .2) _ (turn-inside l) (rw (w .1 .given .1) at (c .before .read-member .ensures))))
+      (λ w. rw (w .4, w .5) (moves _ _ _ _ _ _ (l .before .loop .inv .2) _ (turn-inside l) ((rw (w .1 .given .1) at (c .before .read-member .ensures)) .1)))
       (λ w. rw (w .4, w .5) (w .2 .ensures)))
       (c .match .came)
 
@@ -621,7 +622,7 @@ module _ (t : ℕ) where
       let m = c .before .before in
       let q = m .before .before in
       let l = q .before .before .before in
-      omega (arith, moves-fit _ _ (union-start l .args .nodes .now) (l .before .loop .at) _ _ (l .before .loop .inv .3) _ (union-inside l) (rw (m .member2 .given .1) at (q .read-member .ensures)))
+      omega (arith, moves-fit _ _ (union-start l .args .nodes .now) (l .before .loop .at) _ _ (l .before .loop .inv .3) _ (union-inside l) ((rw (m .member2 .given .1) at (q .read-member .ensures)) .1))
 
   union-seek-requires : U.Need-seek-requires (from-union t) (union-at t) union.Post union-Inv union-μ
   union-seek-requires c κs =
@@ -638,7 +639,7 @@ module _ (t : ℕ) where
       ⊎-elim
       (λ w. rw (w .3, w .4) (still _ _ _ _ _ _ (l .before .loop .inv .3) _ (rw (w .1 .given .1) at (c .before .read-member .ensures))))
       (⊎-elim
-      (λ w. rw (w .4, w .5) (moves _ _ _ _ _ _ (l .before .loop .inv .3) _ (union-inside l) (rw (w .1 .given .1) at (c .before .read-member .ensures))))
+      (λ w. rw (w .4, w .5) (moves _ _ _ _ _ _ (l .before .loop .inv .3) _ (union-inside l) ((rw (w .1 .given .1) at (c .before .read-member .ensures)) .1)))
       (λ w. rw (w .4, w .5) (w .2 .ensures)))
       (c .match .came)
 
