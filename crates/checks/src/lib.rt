@@ -106,24 +106,21 @@ fn check_members(
     let mut at = first;
     let mut left = count;
     while 0 < left {
-        let mut yes = false;
         let place = readers.places[at];
         let member = reader::read_member(numbers, ends, nodes[at], place, to);
-        match member {
-            Member::Still(answer) => {
-                yes = answer == to;
-            }
+        let mut yes = match member {
+            Member::Still(answer) => answer == to,
             Member::Moved(r) => {
                 readers.places[at] = r.place;
                 readers.moves += r.moves;
-                yes = r.answer == to;
+                r.answer == to
             }
             Member::Operator => {
                 let s = check(numbers, ends, nodes, behind, at, readers, d);
                 readers = s.readers;
-                yes = s.yes;
+                s.yes
             }
-        }
+        };
         if turned {
             if left == 1 {
                 yes = !yes;

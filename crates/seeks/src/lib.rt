@@ -97,42 +97,37 @@ fn seek_difference(
     loop {
         let place = readers.places[first];
         let member = reader::read_member(numbers, ends, nodes[first], place, to);
-        match member {
-            Member::Still(answer) => {
-                x = answer;
-            }
+        x = match member {
+            Member::Still(answer) => answer,
             Member::Moved(r) => {
                 readers.places[first] = r.place;
                 readers.moves += r.moves;
-                x = r.answer;
+                r.answer
             }
             Member::Operator => {
                 let s = seek(numbers, ends, nodes, behind, first, readers, to);
                 readers = s.readers;
-                x = s.answer;
+                s.answer
             }
-        }
+        };
         if x == reader::FINISHED {
             break;
         }
-        let mut y = reader::FINISHED;
         let place = readers.places[second];
         let member = reader::read_member(numbers, ends, nodes[second], place, x);
-        match member {
-            Member::Still(answer) => {
-                y = answer;
-            }
+        let y = match member {
+            Member::Still(answer) => answer,
             Member::Moved(r) => {
                 readers.places[second] = r.place;
                 readers.moves += r.moves;
-                y = r.answer;
+                r.answer
             }
             Member::Operator => {
                 let s = seek(numbers, ends, nodes, behind, second, readers, x);
                 readers = s.readers;
-                y = s.answer;
+                s.answer
             }
-        }
+        };
         if y != x {
             break;
         }
@@ -164,24 +159,21 @@ fn seek_union(
     let mut at = node + 1;
     let mut left = count;
     while 0 < left {
-        let mut x = reader::FINISHED;
         let place = readers.places[at];
         let member = reader::read_member(numbers, ends, nodes[at], place, to);
-        match member {
-            Member::Still(answer) => {
-                x = answer;
-            }
+        let x = match member {
+            Member::Still(answer) => answer,
             Member::Moved(r) => {
                 readers.places[at] = r.place;
                 readers.moves += r.moves;
-                x = r.answer;
+                r.answer
             }
             Member::Operator => {
                 let s = seek(numbers, ends, nodes, behind, at, readers, to);
                 readers = s.readers;
-                x = s.answer;
+                s.answer
             }
-        }
+        };
         if x < least {
             least = x;
         }
@@ -226,24 +218,21 @@ fn seek_intersection(
     let mut at = first;
     let mut left = count;
     while 0 < left {
-        let mut x = reader::FINISHED;
         let place = readers.places[at];
         let member = reader::read_member(numbers, ends, nodes[at], place, candidate);
-        match member {
-            Member::Still(answer) => {
-                x = answer;
-            }
+        let x = match member {
+            Member::Still(answer) => answer,
             Member::Moved(r) => {
                 readers.places[at] = r.place;
                 readers.moves += r.moves;
-                x = r.answer;
+                r.answer
             }
             Member::Operator => {
                 let s = seek(numbers, ends, nodes, behind, at, readers, candidate);
                 readers = s.readers;
-                x = s.answer;
+                s.answer
             }
-        }
+        };
         if x == reader::FINISHED {
             left = 0;
         } else if begins_again(candidate, x, first, at) {
