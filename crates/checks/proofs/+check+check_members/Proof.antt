@@ -99,7 +99,7 @@ module _ (t : ℕ) where
       let r = c .before .before .before .before .before .before in
       let a = start r in
       let k = c .before .before .before .before .known .given in
-      (a .pre .1 .0 .lists, (rw (c .wide2 .ensures) (list-there (a .pre .1 .0) _ (k .0 .0) (node-is r (Leaf (k .0 .0)) (k .1)) (a .pre .1 .1 .0)), omega (arith, c .before .before .wide .ensures, a .fits .d)))
+      (a .pre .1 .0 .lists, (omega (arith, c .wide2 .ensures, list-there (a .pre .1 .0) _ (k .0 .0) (node-is r (Leaf (k .0 .0)) (k .1)) (a .pre .1 .1 .0)), omega (arith, c .before .before .wide .ensures, a .fits .d)))
 
   -- the list that the code has read
   node-list : (c : N.After-read-list (node-calls t) (node-at t) check.Post) → let a = start (c .before .before .before .before .before .before .before) in
@@ -330,8 +330,8 @@ pub +check+check-members-spec : {M : Type 1} → statement M
     (members-check-requires t)
     (λ c. let l = replied-in t (c .before) in omega (arith, l .loop-test .taken))
     (members-loop-again t)
-    (λ c. omega (arith, node-there t (replied-in t (c .before))))
-    (λ c. node-there t (replied-in t (c .before)))
+    (λ c. let l = replied-in t (c .before) in omega (arith, node-there t l, going t l .later))
+    (λ c. let l = replied-in t (c .before) in omega (arith, node-there t l, going t l .later))
     (λ c. search needs)
     (λ c. search needs)
     (members-loop-again-2 t)

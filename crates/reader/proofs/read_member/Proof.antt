@@ -63,7 +63,7 @@ read-list-requires c κs =
     let r = c .before .before .before .before in
     let start = r .before .before .before .before .before .before in
     let k = c .before .before .node .given in
-    (start .pre .0, (rw (c .wide .ensures) (start .pre .1 .0 (k .0 .0) (node-is r ∙ ap accepted (k .1))), start .pre .1 .1))
+    (start .pre .0, (omega (arith, c .wide .ensures, start .pre .1 .0 (k .0 .0) (node-is r ∙ ap accepted (k .1))), start .pre .1 .1))
 
 returns-2 : tie.Need-returns-2
 returns-2 c =

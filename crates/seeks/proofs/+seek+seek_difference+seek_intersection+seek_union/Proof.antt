@@ -184,7 +184,7 @@ module _ (t : ℕ) where
       let r = c .before .before .before .before .before in
       let a = node-start r in
       let k = c .before .before .before .known .given in
-      (a .pre .1 .0 .lists, (rw (c .wide .ensures) (list-there (a .pre .1 .0) _ (k .0 .0) (node-is r (Leaf (k .0 .0)) (k .1)) (a .pre .1 .1 .0)), a .pre .1 .1 .1 .0))
+      (a .pre .1 .0 .lists, (omega (arith, c .wide .ensures, list-there (a .pre .1 .0) _ (k .0 .0) (node-is r (Leaf (k .0 .0)) (k .1)) (a .pre .1 .1 .0)), a .pre .1 .1 .1 .0))
 
   -- the list that the code has read
   seek-list : (c : S.After-read-list (from-seek t) (seek-at t) seek.Post) → let a = node-start (c .before .before .before .before .before .before) in
@@ -295,7 +295,7 @@ module _ (t : ℕ) where
       let l = c .before .before .before .before .before in
       let inv = l .loop .inv in
       let e = first-step (c .before) in (
-        record { above = omega (arith, inv .0, e .0 .above); low = e .0 .low; tallied = e .0 .tallied },
+        record { above = omega (arith, inv .0, e .0 .above); low = omega (arith, inv .1, e .0 .low); tallied = e .0 .tallied },
         λ u s. let p = difference-trees (difference-start l) u s in
             both-ended _ _ _ _ (λ i. l .before .before .before .shared-slice-known .given i .fits) _ _ u p s _ _ (inv .1) (inv .2 .many) _ _ (e .1 (p .first) (p .first-at)) (omega arith) ∙ inv .3 u s,
       )
@@ -310,7 +310,7 @@ module _ (t : ℕ) where
   difference-read-member-requires-2 c κs =
       let b = c .before .before in
       let a = difference-start (second-loop b) in
-      (a .pre .1 .0 .lists, (λ k e. list-there (a .pre .1 .0) _ k e (second-tree a), first-step (b .before) .0 .low))
+      (a .pre .1 .0 .lists, (λ k e. list-there (a .pre .1 .0) _ k e (second-tree a), omega (arith, first-step (b .before) .0 .low, second-loop b .loop .inv .1)))
 
   difference-add-readers-2 : D.Need-add-readers-2 (from-difference t) (difference-at t) difference.Post difference-Inv difference-μ
   difference-add-readers-2 c =
@@ -325,7 +325,7 @@ module _ (t : ℕ) where
       let b = c .before .before .before .before .before in
       let a = difference-start (second-loop b) in
       let e = first-step (b .before) .0 in
-      (omega (arith, a .pre .0, second-inside a, goes-on (a .pre .1 .0) _ (first-tree a)), (a .pre .1 .0, (second-tree a, (e .low, e .tallied))))
+      (omega (arith, a .pre .0, second-inside a, goes-on (a .pre .1 .0) _ (first-tree a)), (a .pre .1 .0, (second-tree a, (omega (arith, e .low, second-loop b .loop .inv .1), e .tallied))))
 
   -- the second has answered, from the first's answer and what it left
   second-step : (c : D.At-match2-came (from-difference t) (difference-at t) difference.Post difference-Inv difference-μ) → let b = c .before .before .before .before in let a = difference-start (second-loop b) in
@@ -348,7 +348,7 @@ module _ (t : ℕ) where
       let e = first-step (b .before) in
       let e₂ = second-step (c .before) in
       let low = lt-of-le-ne (e .0 .low) (b .if1 .left) in (
-        record { above = omega (arith, inv .0, e .0 .above); low = e .0 .low; tallied = e₂ .0 .tallied },
+        record { above = omega (arith, inv .0, e .0 .above); low = omega (arith, inv .1, e .0 .low); tallied = e₂ .0 .tallied },
         λ u s. let p = difference-trees (difference-start l) u s in
             both-stopped _ _ _ _ (λ i. l .before .before .before .shared-slice-known .given i .fits) _ _ u p s _ _ (inv .1) (inv .2 .many) _ _ (e .1 (p .first) (p .first-at)) low _ _ (e₂ .1 (p .second) (p .second-at)) (c .if2 .taken) ∙ inv .3 u s,
       )
@@ -428,7 +428,7 @@ module _ (t : ℕ) where
   intersection-read-member-requires c κs =
       let l = c .before .before in
       let a = intersection-start l in
-      (a .pre .1 .0 .lists, (λ k e. list-there (a .pre .1 .0) _ k e (this-turn l .tree), l .before .loop .inv .1))
+      (a .pre .1 .0 .lists, (λ k e. list-there (a .pre .1 .0) _ k e (this-turn l .tree), omega (arith, a .pre .1 .1 .1 .1 .0, l .before .loop .inv .1)))
 
   intersection-add-readers : I.Need-add-readers (from-intersection t) (intersection-at t) intersection.Post intersection-Inv intersection-μ
   intersection-add-readers c =
@@ -615,7 +615,7 @@ module _ (t : ℕ) where
   union-read-member-requires c κs =
       let l = c .before .before in
       let a = union-start l in
-      (a .pre .1 .0 .lists, (λ k e. list-there (a .pre .1 .0) _ k e (union-tree l), a .pre .1 .1 .1 .1 .0))
+      (a .pre .1 .0 .lists, (λ k e. list-there (a .pre .1 .0) _ k e (union-tree l), omega (arith, a .pre .1 .1 .1 .1 .0, l .before .loop .inv .2)))
 
   union-add-readers : U.Need-add-readers (from-union t) (union-at t) union.Post union-Inv union-μ
   union-add-readers c =
