@@ -30,7 +30,7 @@ listed c =
     let from = c .before .start-of .ensures in
     let stop = rw add-one at (c .start-of2 .ensures) in
     let r = list-runs (args .numbers .now) (args .ends .now) (args .k) (start .pre .0) (start .pre .1 .0) in
-    rw (from, stop) (record { order = r .order; inside = r .inside; few = r .few; many = r .many; is = sym (r .is) })
+    rw (from, stop) (record { order = omega (arith, r .order); inside = r .inside; few = r .few; many = r .many; is = sym (r .is) })
 
 -- the reader stops where the step does
 stops : (c : tie.After-moved) → let args = c .before .before .before .before .before .before .before .args in Stopped (getD (lists-from (args .numbers .now) 0 (args .ends .now)) (args .k) []) (args .place) (args .to) (c .moved .result)
@@ -78,7 +78,7 @@ moves-of-requires : tie.Need-moves-of-requires
 moves-of-requires c κs = omega (arith, few c)
 
 place-of-requires : tie.Need-place-of-requires
-place-of-requires c κs = few (c .before)
+place-of-requires c κs = omega (arith, few (c .before), c .before .before .index .ensures .1)
 
 mul-wide : tie.Need-mul-wide
 mul-wide c = search needs
@@ -99,7 +99,7 @@ returns c =
     rw (p .place-of .ensures, p .before .moves-of .ensures, d .before .index .ensures .0) (record {
       above = rw number (stops d .above (omega (arith, l .many, c .before .before .if1 .taken)));
       low = omega arith;
-      small = few d;
+      small = omega (arith, few d, d .before .index .ensures .0, d .before .index .ensures .1);
       within = omega (arith, d .moved .ensures, d .before .index .ensures .0);
       still = λ z. omega (arith, d .moved .ensures, d .before .index .ensures .0);
       is = stops d .number (c .wide .result) (omega (arith, l .many, c .before .before .if1 .taken)) number low;
@@ -111,9 +111,9 @@ returns-2 c =
     let d = p .before .before in
     let l = listed (d .before .before .before) in
     rw (p .place-of .ensures, p .before .moves-of .ensures, d .before .index .ensures .0) (record {
-      above = d .before .before .before .before .before .before .before .pre .1 .1;
-      low = omega arith;
-      small = few d;
+      above = omega (arith, d .before .before .before .before .before .before .before .pre .1 .1);
+      low = omega (arith, d .before .before .before .before .before .before .before .pre .1 .1);
+      small = omega (arith, few d, d .before .index .ensures .0, d .before .index .ensures .1);
       within = omega (arith, d .moved .ensures, d .before .index .ensures .0);
       still = λ z. omega (arith, d .moved .ensures, d .before .index .ensures .0);
       is = stops d .finished (omega (arith, l .many, c .if1 .left));
