@@ -485,7 +485,7 @@ module _ (t : ℕ) where
       let e = member-step (c .before) in
       let ends = c .if1 .taken in (
         omega (arith, inv .0, e .0 .above),
-        e .0 .low,
+        omega (arith, inv .1, e .0 .low),
         e .0 .tallied,
         inr (inr (record {
           none-left = refl;
@@ -516,7 +516,7 @@ module _ (t : ℕ) where
       let low = lt-of-le-ne (e .0 .low) (c .before .before .if1 .left) in
       let higher = again-above _ _ _ _ _ (c .before .begins-again .ensures) (c .if2 .taken) in (
         omega (arith, inv .0, e .0 .above),
-        e .0 .low,
+        omega (arith, inv .1, e .0 .low),
         e .0 .tallied,
         inl (record {
           first-now = refl;
@@ -543,7 +543,7 @@ module _ (t : ℕ) where
       let later = goes-on (a .pre .1 .0) _ (this-turn l .tree) in
       let here = Within (a .args .numbers .now) (a .args .ends .now) (a .args .nodes .now) (a .args .node) (a .args .from) (a .args .node + 1) (a .args .start) in (
         omega (arith, inv .0, e .0 .above),
-        e .0 .low,
+        omega (arith, inv .1, e .0 .low),
         e .0 .tallied,
         inr (inl (⊎-elim
             (λ w.
