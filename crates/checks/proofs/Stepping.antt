@@ -1,23 +1,23 @@
 -- The step of a member node in its operator's own copy of the readers: what it leaves is what the check of that node leaves.
 -- Assumes nothing.
-use mathlib.Core.Path.{_≡_, refl, sym, ap, _∙_}
+use mathlib.Core.Path.{_≡_, refl, ap, _∙_}
 use mathlib.Core.Bool.{Bool}
-use mathlib.Core.List.{List, []}
-use Prim.Native.Nat.{ℕ, _+_, _*_, _≤_, _<_}
+use mathlib.Core.List.{List}
+use Prim.Native.Nat.{ℕ, _<_}
 use native.Mathlib.Omega.{arith}
 use borrow.Author.Tests.{ne-eqb}
 use lib.Dec.{eqb}
 use lib.ListN.{getD}
-use Rattle.model.specs.Lists.{top, lists-from}
+use Rattle.model.specs.Lists.{top}
 use Rattle.model.specs.Steps as model
-use Rattle.model.specs.Steps.{says, read, is-at}
+use Rattle.model.specs.Steps.{says, is-at}
 use Rattle.model.proofs.Order.{split}
 use Rattle.reader.specs.declared.Readers.{Readers}
 use Rattle.reader.specs.declared.ReadResult.{ReadResult}
 use Rattle.reader.specs.Rows.{Ready}
 use Rattle.reader.specs.Sought.{readers-of, found, Tallied, Read, Stays, Named}
 use Rattle.reader.proofs.Answers.{found-at, found-end}
-use Rattle.reader.proofs.Moves.{moves-few, stepped, stepped-tallied}
+use Rattle.reader.proofs.Moves.{stepped, stepped-tallied}
 use Rattle.checks.proofs.Until.{Says}
 use Rattle.checks.proofs.Nodes.{of-list}
 
@@ -44,6 +44,3 @@ module _ {numbers ends nodes behind : List ℕ} (ready : Ready numbers ends node
       stepped-tallied start i (n .of) here t,
       of-list ready i d (readers-of start) (n .list) _ (n .named) (is-found d (r .answer) _ low ∙ ap (is-at d) (n .of .is i (readers-of start) refl)),
     )
-
-    pub moves-fit : start .moves + r .moves ≤ 48 * 65535
-    moves-fit = moves-few (stepped start i (n .of) here t) (stepped-tallied start i (n .of) here t)

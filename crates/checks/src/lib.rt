@@ -1,14 +1,13 @@
 // "To check D": the check of a node and the check over its member nodes call each other. With every step down to a member node fewer
 // nodes remain. Every check takes the readers by value and hands them back by value with its reply; a member node that is a list is
 // read in the operator's own copy, as in a seek.
-ghost use mathlib.Core.Path.{_≡_};
 ghost use lib.ListN.{length};
 ghost use Rattle.reader.specs.Rows.{Standing, Standing-each, Ready};
 ghost use Rattle.reader.specs.Sought.{Tallied};
 ghost use Rattle.checks.specs.Telling.{Tells, Tells-in};
 use expression::Kind;
 use model::Node;
-use reader::Member;
+use reader::MemberRead;
 use reader::Readers;
 
 // What a check hands back: the readers after it, and yes or no.
@@ -109,13 +108,13 @@ fn check_members(
         let place = readers.places[at];
         let member = reader::read_member(numbers, ends, nodes[at], place, to);
         let mut yes = match member {
-            Member::Still(answer) => answer == to,
-            Member::Moved(r) => {
+            MemberRead::Still(answer) => answer == to,
+            MemberRead::Moved(r) => {
                 readers.places[at] = r.place;
                 readers.moves += r.moves;
                 r.answer == to
             }
-            Member::Operator => {
+            MemberRead::Operator => {
                 let s = check(numbers, ends, nodes, behind, at, readers, d);
                 readers = s.readers;
                 s.yes

@@ -144,3 +144,6 @@ module _ {l : List ℕ} {e : ℕ} {r : ReadResult} (rs : Readers) (i : ℕ) (rea
 
   pub stepped-sound : Sound e (record { readers = stepped; answer = r .answer })
   stepped-sound = record { above = reads .above; low = reads .low; tallied = stepped-tallied }
+
+  pub stepped-fits : rs .moves + r .moves ≤ 48 * 65535
+  stepped-fits = moves-few stepped stepped-tallied

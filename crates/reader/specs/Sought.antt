@@ -1,4 +1,4 @@
--- The readers as the code has them, and what a seek hands back.
+-- The readers as the code has them, what a seek hands back, and what a list's own step does.
 use mathlib.Core.Path.{_≡_}
 use mathlib.Core.Bool.{true, false}
 use mathlib.Core.List.{List, []}
@@ -15,8 +15,8 @@ use Rattle.model.specs.Demands.{sum}
 use Rattle.reader.specs.declared.Readers.{Readers}
 use Rattle.reader.specs.declared.SeekResult.{SeekResult}
 use Rattle.reader.specs.declared.ReadResult.{ReadResult}
-use Rattle.reader.specs.declared.Member.{Member}
-use Rattle.reader.specs.declared.Member.the-variants.{Still, Moved, Operator}
+use Rattle.reader.specs.declared.MemberRead.{MemberRead}
+use Rattle.reader.specs.declared.MemberRead.the-variants.{Still, Moved, Operator}
 
 -- places and moves: the same as the record of the definitions
 abbrev pub readers-of : Readers → model.Readers
@@ -64,7 +64,7 @@ pub record Named (numbers ends : List ℕ) (byte : ℕ) (Of : List ℕ → Type 
   pub of : Of (getD (lists-from numbers 0 ends) list [])
 
 -- what a member node comes to, by its byte: its list's reader stays, or moves; or it is no list
-abbrev pub Reads : (numbers ends : List ℕ) → (byte place e : ℕ) → Member → Type 0
+abbrev pub Reads : (numbers ends : List ℕ) → (byte place e : ℕ) → MemberRead → Type 0
 Reads numbers ends byte place e (Still x) = Named numbers ends byte (λ l. Stays l place e x)
 Reads numbers ends byte place e (Moved r) = (0 < r .moves) × Named numbers ends byte (λ l. Read l place e r)
 Reads numbers ends byte place e Operator = (k : ℕ) → node-of byte ≡ accepted (Leaf k) → ⊥

@@ -39,7 +39,7 @@ pub struct ReadResult {
 
 // What reading a member node comes to: where it is a list, its reader stays, with this answer, or moves. Any other node is left to
 // its own seek or check.
-pub enum Member {
+pub enum MemberRead {
     Still(u64),
     Moved(ReadResult),
     Operator,
@@ -118,24 +118,24 @@ pub fn read_list(numbers: &[u32], ends: &[u32], k: usize, place: u16, to: u64) -
 }
 
 // The member node of a byte: "0 to 31 a list", whose reader steps from its place; any other byte is no list.
-pub fn read_member(numbers: &[u32], ends: &[u32], byte: u8, place: u16, to: u64) -> Member
+pub fn read_member(numbers: &[u32], ends: &[u32], byte: u8, place: u16, to: u64) -> MemberRead
     requires { ⌜ lists-of (now numbers) (now ends) ≡ accepted (lists-from (now numbers) 0 (now ends)) ⌝ }
     requires { ⌜ ((k : ℕ) → node-of byte ≡ accepted (Leaf k) → k < length (now ends)) × (to ≤ top) ⌝ }
     ensures { λ r. ⌜ Reads (now (numbers .entry)) (now (ends .entry)) byte place to r ⌝ }
 {
     let kind = expression::node_of(byte);
     let Kind::Known(node) = kind else {
-        return Member::Operator;
+        return MemberRead::Operator;
     };
     match node {
         Node::Leaf(k) => {
             let r = read_list(numbers, ends, expression::wide(k), place, to);
             if r.moves == 0 {
-                return Member::Still(r.answer);
+                return MemberRead::Still(r.answer);
             }
-            Member::Moved(r)
+            MemberRead::Moved(r)
         }
-        _ => Member::Operator,
+        _ => MemberRead::Operator,
     }
 }
 

@@ -19,7 +19,7 @@ use Rattle.reader.specs.Rows.{Stands, Behind, Ready}
 use Rattle.reader.specs.Sought.{found}
 use Rattle.reader.proofs.Standing.{kind, each, below, many-below, leaf-is, union-is, intersection-is, root-is, inside}
 use Rattle.reader.proofs.Members.{first-is, below-at, Split, split, Pair, Comes, comes-last, comes-now, comes-on}
-use Rattle.seeks.proofs.Turns.{seek-each, going, first-ended, differ-stop, differ-turn, intersect-begin, going-none, going-stop, going-turn, head, tail, each-is, unite-from, unite-end, unite-turn, unite-start, each-end, each-stop, each-turn, intersection-step}
+use Rattle.seeks.proofs.Turns.{seek-each, going, first-ended, differ-stop, differ-turn, intersect-begin, head, tail, each-is, unite-from, unite-end, unite-turn, unite-start, each-end, each-stop, each-turn, intersection-step}
 
 -- what the loops over member nodes go through: a union's with the least answer so far, and those after an intersection's first
 abbrev pub uniting : List (List ℕ) → ℕ → List Tree → ℕ → ℕ × Readers → Found

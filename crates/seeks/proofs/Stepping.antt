@@ -1,13 +1,13 @@
 -- The step of a member node in its operator's own copy of the readers: what it leaves is what the seek of that node leaves.
 -- Assumes nothing.
-use mathlib.Core.Path.{_≡_, refl}
+use mathlib.Core.Path.{refl}
 use mathlib.Core.List.{List}
-use Prim.Native.Nat.{ℕ, _+_, _*_, _≤_, _<_}
+use Prim.Native.Nat.{ℕ, _<_}
 use lib.ListN.{getD}
 use Rattle.reader.specs.declared.Readers.{Readers}
 use Rattle.reader.specs.declared.ReadResult.{ReadResult}
 use Rattle.reader.specs.Sought.{readers-of, found, Tallied, Sound, Read, Stays, Named}
-use Rattle.reader.proofs.Moves.{moves-few, stepped, stepped-tallied, stepped-sound}
+use Rattle.reader.proofs.Moves.{stepped, stepped-sound}
 use Rattle.seeks.specs.Finding.{Finds}
 use Rattle.seeks.proofs.Nodes.{read-is}
 
@@ -30,6 +30,3 @@ module _ (numbers ends nodes : List ℕ) (i e : ℕ) (start : Readers) (t : Tall
       stepped-sound start i (n .of) here t,
       read-is numbers ends nodes i (n .list) (n .named) e (readers-of start) _ (n .of .is i (readers-of start) refl),
     )
-
-    pub moves-fit : start .moves + r .moves ≤ 48 * 65535
-    moves-fit = moves-few (stepped start i (n .of) here t) (stepped-tallied start i (n .of) here t)

@@ -16,7 +16,7 @@ ghost use Rattle.reader.specs.Sought.{Tallied, Sound};
 ghost use Rattle.seeks.specs.Finding.{Finds};
 use expression::Kind;
 use model::Node;
-use reader::Member;
+use reader::MemberRead;
 use reader::Readers;
 use reader::SeekResult;
 
@@ -98,13 +98,13 @@ fn seek_difference(
         let place = readers.places[first];
         let member = reader::read_member(numbers, ends, nodes[first], place, to);
         x = match member {
-            Member::Still(answer) => answer,
-            Member::Moved(r) => {
+            MemberRead::Still(answer) => answer,
+            MemberRead::Moved(r) => {
                 readers.places[first] = r.place;
                 readers.moves += r.moves;
                 r.answer
             }
-            Member::Operator => {
+            MemberRead::Operator => {
                 let s = seek(numbers, ends, nodes, behind, first, readers, to);
                 readers = s.readers;
                 s.answer
@@ -116,13 +116,13 @@ fn seek_difference(
         let place = readers.places[second];
         let member = reader::read_member(numbers, ends, nodes[second], place, x);
         let y = match member {
-            Member::Still(answer) => answer,
-            Member::Moved(r) => {
+            MemberRead::Still(answer) => answer,
+            MemberRead::Moved(r) => {
                 readers.places[second] = r.place;
                 readers.moves += r.moves;
                 r.answer
             }
-            Member::Operator => {
+            MemberRead::Operator => {
                 let s = seek(numbers, ends, nodes, behind, second, readers, x);
                 readers = s.readers;
                 s.answer
@@ -162,13 +162,13 @@ fn seek_union(
         let place = readers.places[at];
         let member = reader::read_member(numbers, ends, nodes[at], place, to);
         let x = match member {
-            Member::Still(answer) => answer,
-            Member::Moved(r) => {
+            MemberRead::Still(answer) => answer,
+            MemberRead::Moved(r) => {
                 readers.places[at] = r.place;
                 readers.moves += r.moves;
                 r.answer
             }
-            Member::Operator => {
+            MemberRead::Operator => {
                 let s = seek(numbers, ends, nodes, behind, at, readers, to);
                 readers = s.readers;
                 s.answer
@@ -221,13 +221,13 @@ fn seek_intersection(
         let place = readers.places[at];
         let member = reader::read_member(numbers, ends, nodes[at], place, candidate);
         let x = match member {
-            Member::Still(answer) => answer,
-            Member::Moved(r) => {
+            MemberRead::Still(answer) => answer,
+            MemberRead::Moved(r) => {
                 readers.places[at] = r.place;
                 readers.moves += r.moves;
                 r.answer
             }
-            Member::Operator => {
+            MemberRead::Operator => {
                 let s = seek(numbers, ends, nodes, behind, at, readers, candidate);
                 readers = s.readers;
                 s.answer

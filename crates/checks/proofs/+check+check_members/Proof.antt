@@ -22,10 +22,11 @@ use Rattle.expression.specs.Reading.{kind-says, members}
 use Rattle.reader.specs.declared.Readers.{Readers}
 use Rattle.reader.specs.Rows.{Standing, Standing-each}
 use Rattle.reader.specs.Sought.{readers-of, Tallied, Read, Named}
+use Rattle.reader.proofs.Moves.{stepped-fits}
 use Rattle.reader.proofs.Members.{not-unknown, list-there, members-stand, inside, goes-on, member-stands, others-stand}
 use Rattle.checks.proofs.Until.{said, Say, none-left, sought, not-sought}
 use Rattle.checks.proofs.Nodes.{joins, of-members, of-difference}
-use Rattle.checks.proofs.Stepping.{Leaves, still, moves, moves-fit}
+use Rattle.checks.proofs.Stepping.{Leaves, still, moves}
 use Rattle.checks.proofs.check.Reads as check
 use Rattle.checks.proofs.check.Kinds as check-kinds
 use Rattle.checks.proofs.+check+check_members.Lts-check as N
@@ -113,7 +114,7 @@ module _ (t : ℕ) where
       let l = c .before in
       let r = l .before .before .before .before .before .before .before in
       let a = start r in
-      omega (arith, moves-fit (a .pre .1 .0) (a .args .node) (a .args .d) (omega (arith, a .fits .d)) _ (a .pre .1 .1 .1) _ (node-inside r) (node-list l))
+      omega (arith, stepped-fits _ (a .args .node) ((node-list l) .of) (node-inside r) (a .pre .1 .1 .1))
 
   node-returns-2 : N.Need-returns-2 (node-calls t) (node-at t) check.Post
   node-returns-2 c =
@@ -206,7 +207,7 @@ module _ (t : ℕ) where
       let q = m .before .before in
       let l = q .before .before .before in
       let a = called l in
-      omega (arith, moves-fit (a .pre .1 .0) (l .before .loop .at) (a .args .d) (d-low l) _ (l .before .loop .inv .0) _ (node-there l) ((rw (m .member2 .given .1, l .before .before .wide .ensures) at (q .read-member .ensures)) .1))
+      omega (arith, stepped-fits _ (l .before .loop .at) (((rw (m .member2 .given .1, l .before .before .wide .ensures) at (q .read-member .ensures)) .1) .of) (node-there l) (l .before .loop .inv .0))
 
   members-check-requires : M.Need-check-requires (members-calls t) (members-at t) check-members.Post Inv-loop μ-loop
   members-check-requires c κs =

@@ -7,7 +7,7 @@ use borrow.Author.Needs.{needs}
 use lib.ListN.{length}
 use Rattle.model.specs.declared.Node.{Node}
 use Rattle.model.specs.declared.Node.the-variants.{Leaf, Difference, Union, Intersection}
-use Rattle.model.specs.Outcome.{Outcome, refused, accepted}
+use Rattle.model.specs.Outcome.{Outcome, accepted}
 use Rattle.model.specs.Fields.{field, value}
 use Rattle.model.specs.Forms.{packed-node, node-of}
 use Rattle.model.proofs.Bits.{field-length, value-field}

@@ -25,10 +25,11 @@ use Rattle.expression.specs.Reading.{kind-says}
 use Rattle.reader.specs.declared.Readers.{Readers}
 use Rattle.reader.specs.Rows.{Stands, Standing, Standing-each}
 use Rattle.reader.specs.Sought.{readers-of, found, Tallied, Read, Named}
+use Rattle.reader.proofs.Moves.{stepped-fits}
 use Rattle.reader.proofs.Members.{Pair, pair, not-unknown, list-there, first-stands, second-stands, members-stand, inside, goes-on, member-stands, others-stand, Comes}
 use Rattle.seeks.proofs.Turns.{going, going-none, going-stop, going-turn, again-above, again-else}
-use Rattle.seeks.proofs.Nodes.{uniting, following, both-ended, both-stopped, both-turned, Every, every, every-ended, every-begun, unite, read-is, unites-last, unites-on, follows-last, follows-stop, follows-on}
-use Rattle.seeks.proofs.Stepping.{Leaves, still, moves, moves-fit}
+use Rattle.seeks.proofs.Nodes.{uniting, following, both-ended, both-stopped, both-turned, Every, every, every-ended, every-begun, unite, unites-last, unites-on, follows-last, follows-stop, follows-on}
+use Rattle.seeks.proofs.Stepping.{Leaves, still, moves}
 use Rattle.seeks.proofs.seek.Reads as seek
 use Rattle.seeks.proofs.seek.Kinds as seek-kinds
 use Rattle.seeks.proofs.seek_difference.Reads as difference
@@ -198,7 +199,7 @@ module _ (t : ℕ) where
       let l = c .before in
       let r = l .before .before .before .before .before .before in
       let a = node-start r .args in
-      omega (arith, moves-fit _ _ (a .nodes .now) (a .node) _ _ (node-start r .pre .1 .1 .1 .1) _ (node-inside r) (seek-list l))
+      omega (arith, stepped-fits _ (a .node) ((seek-list l) .of) (node-inside r) (node-start r .pre .1 .1 .1 .1))
 
   seek-returns-2 : S.Need-returns-2 (from-seek t) (seek-at t) seek.Post
   seek-returns-2 c =
@@ -270,7 +271,7 @@ module _ (t : ℕ) where
       let q = m .before .before in
       let l = q .before .before .before in
       let a = difference-start l in
-      omega (arith, moves-fit _ _ (a .args .nodes .now) (a .args .node + 1) _ _ (l .loop .inv .2) _ (first-inside a) ((rw (m .member2 .given .1) at (q .read-member .ensures)) .1))
+      omega (arith, stepped-fits _ (a .args .node + 1) (((rw (m .member2 .given .1) at (q .read-member .ensures)) .1) .of) (first-inside a) (l .loop .inv .2))
 
   difference-seek-requires : D.Need-seek-requires (from-difference t) (difference-at t) difference.Post difference-Inv difference-μ
   difference-seek-requires c κs =
@@ -318,7 +319,7 @@ module _ (t : ℕ) where
       let q = m .before .before in
       let b = q .before .before .before in
       let a = difference-start (second-loop b) in
-      omega (arith, moves-fit _ _ (a .args .nodes .now) (getD (a .args .behind .now) (a .args .node + 1) 0) _ _ (first-step (b .before) .0 .tallied) _ (second-inside a) ((rw (m .member4 .given .1) at (q .read-member2 .ensures)) .1))
+      omega (arith, stepped-fits _ (getD (a .args .behind .now) (a .args .node + 1) 0) (((rw (m .member4 .given .1) at (q .read-member2 .ensures)) .1) .of) (second-inside a) (first-step (b .before) .0 .tallied))
 
   difference-seek-requires-2 : D.Need-seek-requires-2 (from-difference t) (difference-at t) difference.Post difference-Inv difference-μ
   difference-seek-requires-2 c κs =
@@ -435,7 +436,7 @@ module _ (t : ℕ) where
       let m = c .before .before in
       let q = m .before .before in
       let l = q .before .before .before in
-      omega (arith, moves-fit _ _ (intersection-start l .args .nodes .now) (l .before .loop .at) _ _ (l .before .loop .inv .2) _ (turn-inside l) ((rw (m .member2 .given .1) at (q .read-member .ensures)) .1))
+      omega (arith, stepped-fits _ (l .before .loop .at) (((rw (m .member2 .given .1) at (q .read-member .ensures)) .1) .of) (turn-inside l) (l .before .loop .inv .2))
 
   intersection-seek-requires : I.Need-seek-requires (from-intersection t) (intersection-at t) intersection.Post intersection-Inv intersection-μ
   intersection-seek-requires c κs =
@@ -622,7 +623,7 @@ module _ (t : ℕ) where
       let m = c .before .before in
       let q = m .before .before in
       let l = q .before .before .before in
-      omega (arith, moves-fit _ _ (union-start l .args .nodes .now) (l .before .loop .at) _ _ (l .before .loop .inv .3) _ (union-inside l) ((rw (m .member2 .given .1) at (q .read-member .ensures)) .1))
+      omega (arith, stepped-fits _ (l .before .loop .at) (((rw (m .member2 .given .1) at (q .read-member .ensures)) .1) .of) (union-inside l) (l .before .loop .inv .3))
 
   union-seek-requires : U.Need-seek-requires (from-union t) (union-at t) union.Post union-Inv union-μ
   union-seek-requires c κs =
