@@ -101,13 +101,16 @@ fn check_members(
 {
     let to = reader::wide(d);
     let mut readers = start;
-    let mut reply = !until;
+    let mut yes = !until;
     let mut at = first;
     let mut left = count;
     while 0 < left {
+        if yes == until {
+            break;
+        }
         let place = readers.places[at];
         let member = reader::read_member(numbers, ends, nodes[at], place, to);
-        let mut yes = match member {
+        yes = match member {
             MemberRead::Still(answer) => answer == to,
             MemberRead::Moved(r) => {
                 readers.places[at] = r.place;
@@ -125,16 +128,8 @@ fn check_members(
                 yes = !yes;
             }
         }
-        if yes == until {
-            reply = until;
-            left = 0;
-        } else {
-            at = behind[at];
-            left -= 1;
-        }
+        at = behind[at];
+        left -= 1;
     }
-    CheckResult {
-        readers,
-        yes: reply,
-    }
+    CheckResult { readers, yes }
 }

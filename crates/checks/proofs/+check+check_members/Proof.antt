@@ -18,13 +18,14 @@ use Rattle.model.specs.Lists.{top}
 use Rattle.model.specs.Forms.{node-of}
 use Rattle.model.specs.Steps as model
 use Rattle.model.specs.Steps.{Checked, says}
+use Rattle.model.proofs.Order.{not-both}
 use Rattle.expression.specs.Reading.{kind-says, members}
 use Rattle.reader.specs.declared.Readers.{Readers}
-use Rattle.reader.specs.Rows.{Standing, Standing-each}
+use Rattle.reader.specs.Rows.{Standing, Standing-each, Ready}
 use Rattle.reader.specs.Sought.{readers-of, Tallied, Read, Named}
 use Rattle.reader.proofs.Moves.{stepped-fits}
 use Rattle.reader.proofs.Members.{not-unknown, list-there, members-stand, inside, goes-on, member-stands, others-stand}
-use Rattle.checks.proofs.Until.{said, Say, none-left, sought, not-sought}
+use Rattle.checks.proofs.Until.{said, Says, Say, none-left, sought, not-sought}
 use Rattle.checks.proofs.Nodes.{joins, of-members, of-difference}
 use Rattle.checks.proofs.Stepping.{Leaves, still, moves}
 use Rattle.checks.proofs.check.Reads as check
@@ -147,147 +148,152 @@ module _ (t : ℕ) where
 
 -- ---- the checks of member nodes
 
--- the member nodes left decide; or the reply stands
-record Going (numbers ends nodes : List ℕ) (first count : ℕ) (until turned : Bool) (d : ℕ) (from here : Readers) (reply : Bool) (at left : ℕ) : Type 0 where
-  none-yet : reply ≡ not until
+-- no one has said so yet, and the member nodes left decide; or one has, and its reply stands
+record Going (numbers ends nodes : List ℕ) (first count : ℕ) (until turned : Bool) (d : ℕ) (from here : Readers) (last : Bool) (at left : ℕ) : Type 0 where
+  not-so : Bool·beq last until ≡ false
   stand : Standing-each (length ends) nodes at left
   later : first ≤ at
   all-say : (c : Checked) → Say numbers ends nodes d until turned at left (readers-of here) c → Say numbers ends nodes d until turned first count (readers-of from) c
 
-record Done (numbers ends nodes : List ℕ) (first count : ℕ) (until turned : Bool) (d : ℕ) (from here : Readers) (reply : Bool) (left : ℕ) : Type 0 where
-  ended : left ≡ 0
-  say : Say numbers ends nodes d until turned first count (readers-of from) (says reply (readers-of here))
+record Done (numbers ends nodes : List ℕ) (first count : ℕ) (until turned : Bool) (d : ℕ) (from here : Readers) (last : Bool) : Type 0 where
+  so : Bool·beq last until ≡ true
+  say : Say numbers ends nodes d until turned first count (readers-of from) (says last (readers-of here))
 
 abbrev Inv-loop : M.InvT-loop
-Inv-loop numbers ends nodes behind first count until turned d to readers₀ reply₀ at₀ left₀ readers reply at left =
-    Tallied readers × (Going numbers ends nodes first count until turned d readers₀ readers reply at left ⊎ Done numbers ends nodes first count until turned d readers₀ readers reply left)
+Inv-loop numbers ends nodes behind first count until turned d to readers₀ yes₀ at₀ left₀ readers yes′ at left =
+    Tallied readers × (Going numbers ends nodes first count until turned d readers₀ readers yes′ at left ⊎ Done numbers ends nodes first count until turned d readers₀ readers yes′)
 
 abbrev μ-loop : M.MeasureT-loop
-μ-loop numbers ends nodes behind first count until turned d to readers₀ reply₀ at₀ left₀ readers reply at left = left
+μ-loop numbers ends nodes behind first count until turned d to readers₀ yes₀ at₀ left₀ readers yes′ at left = left
 
-beq-same : (y b : Bool) → Bool·beq y b ≡ true → y ≡ b
-beq-same true true h = refl
-beq-same true false h = cc h
-beq-same false true h = cc h
-beq-same false false h = refl
+none-yet : (b : Bool) → Bool·beq (not b) b ≡ false
+none-yet true = refl
+none-yet false = refl
+
+other : (y b : Bool) → Bool·beq y b ≡ false → y ≡ not b
+other true true h = cc h
+other true false h = refl
+other false true h = refl
+other false false h = cc h
+
+-- a member node has replied, and what it says decides or not
+module _ {numbers ends nodes behind : List ℕ} (ready : Ready numbers ends nodes behind) (first count : ℕ) (until turned : Bool) (d : ℕ) (from here after : Readers) (last y : Bool) (at left : ℕ) where
+  turns : 0 < left → Going numbers ends nodes first count until turned d from here last at left → Says numbers ends nodes d at (readers-of here) (says y (readers-of after))
+      → Going numbers ends nodes first count until turned d from after (said turned left y) (getD behind at 0) (left - 1) ⊎ Done numbers ends nodes first count until turned d from after (said turned left y)
+  turns h w a = go (Bool·beq (said turned left y) until) refl
+    where
+      go : (b : Bool) → Bool·beq (said turned left y) until ≡ b
+          → Going numbers ends nodes first count until turned d from after (said turned left y) (getD behind at 0) (left - 1) ⊎ Done numbers ends nodes first count until turned d from after (said turned left y)
+      go true so = inr (record { so = so; say = w .all-say _ (sought numbers ends nodes d until turned at left _ y _ h a so) })
+      go false not-so = inl (record {
+        not-so = not-so;
+        stand = others-stand ready at left h (w .stand);
+        later = omega (arith, w .later, goes-on ready at (member-stands ready at left h (w .stand)));
+        all-say = λ r on. w .all-say r (not-sought numbers ends nodes d until turned at left _ y _ h a behind (ready .table) r not-so on);
+      })
 
 module _ (t : ℕ) where
-  abbrev At-loop : Type 0
-  At-loop = M.In-loop (members-calls t) (members-at t) check-members.Post Inv-loop μ-loop
+  -- a turn: a member node is left, and no one has said so
+  abbrev Turn : Type 0
+  Turn = M.Else1 (members-calls t) (members-at t) check-members.Post Inv-loop μ-loop
 
-  abbrev called : At-loop → M.Start (members-calls t) (members-at t) check-members.Post Inv-loop μ-loop
-  called l = l .before .before .before .before .before
+  abbrev called : Turn → M.Start (members-calls t) (members-at t) check-members.Post Inv-loop μ-loop
+  called l = l .before .before .before .before .before .before
 
-  -- a turn is where the member nodes left decide
-  going : (l : At-loop) → let a = called l .args in
-      Going (a .numbers .now) (a .ends .now) (a .nodes .now) (a .first) (a .count) (a .until) (a .turned) (a .d) (a .start) (l .before .loop .readers) (l .before .loop .reply) (l .before .loop .at) (l .before .loop .left)
-  going l = ⊎-elim (λ w. w) (λ w. absurd (omega (arith, w .ended, l .loop-test .taken))) (l .before .loop .inv .1)
+  going : (l : Turn) → let a = called l .args in let i = l .before .before .loop in
+      Going (a .numbers .now) (a .ends .now) (a .nodes .now) (a .first) (a .count) (a .until) (a .turned) (a .d) (a .start) (i .readers) (i .yes) (i .at) (i .left)
+  going l = ⊎-elim (λ w. w) (λ w. absurd (not-both (w .so) (l .if1 .left))) (l .before .before .loop .inv .1)
 
-  this-tree : (l : At-loop) → Standing (length (called l .args .ends .now)) (called l .args .nodes .now) (l .before .loop .at)
-  this-tree l = member-stands (called l .pre .1 .0) _ _ (l .loop-test .taken) (going l .stand)
+  this-tree : (l : Turn) → Standing (length (called l .args .ends .now)) (called l .args .nodes .now) (l .before .before .loop .at)
+  this-tree l = member-stands (called l .pre .1 .0) _ _ (l .before .loop-test .taken) (going l .stand)
 
-  node-there : (l : At-loop) → l .before .loop .at < 48
+  node-there : (l : Turn) → l .before .before .loop .at < 48
   node-there l = inside (called l .pre .1 .0) _ (this-tree l)
 
-  d-low : (l : At-loop) → called l .args .d < top
+  d-low : (l : Turn) → called l .args .d < top
   d-low l = omega (arith, called l .fits .d)
 
   members-loop-holds : M.Need-loop-holds (members-calls t) (members-at t) check-members.Post Inv-loop μ-loop
-  members-loop-holds c = let a = c .before .before .before in (a .pre .1 .1 .1, inl (record { none-yet = refl; stand = a .pre .1 .1 .0; later = omega arith; all-say = λ r on. on }))
+  members-loop-holds c = let a = c .before .before .before in (a .pre .1 .1 .1, inl (record { not-so = none-yet (a .args .until); stand = a .pre .1 .1 .0; later = omega arith; all-say = λ r on. on }))
 
   members-read-member-requires : M.Need-read-member-requires (members-calls t) (members-at t) check-members.Post Inv-loop μ-loop
   members-read-member-requires c κs =
       let l = c .before .before in
       let a = called l in
-      (a .pre .1 .0 .lists, (λ k e. list-there (a .pre .1 .0) _ k e (this-tree l), omega (arith, l .before .before .wide .ensures, d-low l)))
+      (a .pre .1 .0 .lists, (λ k e. list-there (a .pre .1 .0) _ k e (this-tree l), omega (arith, l .before .before .before .wide .ensures, d-low l)))
 
   members-add-readers : M.Need-add-readers (members-calls t) (members-at t) check-members.Post Inv-loop μ-loop
   members-add-readers c =
       let m = c .before .before in
       let q = m .before .before in
       let l = q .before .before .before in
-      let a = called l in
-      omega (arith, stepped-fits _ (l .before .loop .at) (((rw (m .member2 .given .1, l .before .before .wide .ensures) at (q .read-member .ensures)) .1) .of) (node-there l) (l .before .loop .inv .0))
+      let i = l .before .before in
+      omega (arith, stepped-fits _ (i .loop .at) (((rw (m .member2 .given .1, i .before .wide .ensures) at (q .read-member .ensures)) .1) .of) (node-there l) (i .loop .inv .0))
 
   members-check-requires : M.Need-check-requires (members-calls t) (members-at t) check-members.Post Inv-loop μ-loop
   members-check-requires c κs =
       let l = c .before .before .before .before .before in
-      (omega (arith, called l .pre .0, node-there l, going l .later), (called l .pre .1 .0, (this-tree l, l .before .loop .inv .0)))
+      (omega (arith, called l .pre .0, node-there l, going l .later), (called l .pre .1 .0, (this-tree l, l .before .before .loop .inv .0)))
 
   -- the member node has replied: what its check leaves
-  member-step : (c : M.At-match-came (members-calls t) (members-at t) check-members.Post Inv-loop μ-loop) → let l = c .before .before .before .before in let a = l .before .before .before .before .before .args in
-      Leaves (a .numbers .now) (a .ends .now) (a .nodes .now) (l .before .loop .at) (a .d) (l .before .loop .readers) (c .match .yes) (c .match .readers)
+  member-step : (c : M.At-match-came (members-calls t) (members-at t) check-members.Post Inv-loop μ-loop) → let l = c .before .before .before .before in let i = l .before .before in let a = i .before .before .before .before .args in
+      Leaves (a .numbers .now) (a .ends .now) (a .nodes .now) (i .loop .at) (a .d) (i .loop .readers) (c .match .yes) (c .match .readers)
   member-step c =
       let l = c .before .before .before .before in
       let a = called l in
-      let to = l .before .before .wide .ensures in
+      let i = l .before .before in
+      let to = i .before .wide .ensures in
       ⊎-elim
-      (λ w. rw (w .3, w .4, to) (still (a .pre .1 .0) _ _ (d-low l) _ (l .before .loop .inv .0) _ (rw (w .1 .given .1, to) at (c .before .read-member .ensures))))
+      (λ w. rw (w .3, w .4, to) (still (a .pre .1 .0) _ _ (d-low l) _ (i .loop .inv .0) _ (rw (w .1 .given .1, to) at (c .before .read-member .ensures))))
       (⊎-elim
-      (λ w. rw (w .5, w .6, to) (moves (a .pre .1 .0) _ _ (d-low l) _ (l .before .loop .inv .0) _ (node-there l) ((rw (w .1 .given .1, to) at (c .before .read-member .ensures)) .1)))
+      (λ w. rw (w .5, w .6, to) (moves (a .pre .1 .0) _ _ (d-low l) _ (i .loop .inv .0) _ (node-there l) ((rw (w .1 .given .1, to) at (c .before .read-member .ensures)) .1)))
       (λ w. rw (w .4, w .5) (w .2 .ensures)))
       (c .match .came)
 
   abbrev Replied : Type 0
-  Replied = M.Joined1 (members-calls t) (members-at t) check-members.Post Inv-loop μ-loop
+  Replied = M.Joined2 (members-calls t) (members-at t) check-members.Post Inv-loop μ-loop
 
-  abbrev replied-in : Replied → At-loop
+  abbrev replied-in : Replied → Turn
   replied-in j = j .before .before .before .before .before
 
   -- the reply is said turned round where it is the last of those that are
-  said-is : (j : Replied) → let l = j .before .before .before .before .before in j .if1 .yes ≡ said (l .before .before .before .before .before .args .turned) (l .before .loop .left) (j .before .match .yes)
+  said-is : (j : Replied) → let i = j .before .before .before .before .before .before .before in j .if2 .yes ≡ said (i .before .before .before .before .args .turned) (i .loop .left) (j .before .match .yes)
   said-is j =
       ⊎-elim
       (λ w. rw (w .2, said, w .0 .taken, eq-eqb _ _ (w .1 .taken)) refl)
       (⊎-elim
       (λ w. rw (w .2, said, w .0 .taken, ne-eqb _ _ (w .1 .left)) refl)
       (λ w. rw (w .1, said, w .0 .left) refl))
-      (j .if1 .came)
+      (j .if2 .came)
 
   members-loop-again : M.Need-loop-again (members-calls t) (members-at t) check-members.Post Inv-loop μ-loop
   members-loop-again c =
       let j = c .before in
       let l = replied-in j in
       let a = called l .args in
-      let e = member-step (j .before) in
-      let so = subst (λ (y : Bool). Bool·beq y (a .until) ≡ true) (said-is j) (c .if3 .taken) in (
+      let e = member-step (j .before) in (
         e .0,
-        inr (record {
-          ended = refl;
-          say = subst (λ (y : Bool). Say (a .numbers .now) (a .ends .now) (a .nodes .now) (a .d) (a .until) (a .turned) (a .first) (a .count) (readers-of (a .start)) (says y (readers-of (j .before .match .readers)))) (beq-same _ _ so)
-              (going l .all-say _ (sought _ _ _ _ _ _ _ _ _ _ _ (l .loop-test .taken) (e .1) so));
-        }),
-      )
-
-  members-loop-again-2 : M.Need-loop-again-2 (members-calls t) (members-at t) check-members.Post Inv-loop μ-loop
-  members-loop-again-2 c =
-      let j = c .before .before in
-      let l = replied-in j in
-      let a = called l .args in
-      let ready = called l .pre .1 .0 in
-      let w = going l in
-      let e = member-step (j .before) in
-      let other = subst (λ (y : Bool). Bool·beq y (a .until) ≡ false) (said-is j) (c .before .if3 .left) in (
-        e .0,
-        inl (record {
-          none-yet = w .none-yet;
-          stand = others-stand ready _ _ (l .loop-test .taken) (w .stand);
-          later = omega (arith, w .later, goes-on ready _ (this-tree l));
-          all-say = λ r on. w .all-say r (not-sought _ _ _ _ _ _ _ _ _ _ _ (l .loop-test .taken) (e .1) (a .behind .now) (ready .table) r other on);
-        }),
+        subst
+            (λ (y : Bool). Going (a .numbers .now) (a .ends .now) (a .nodes .now) (a .first) (a .count) (a .until) (a .turned) (a .d) (a .start) (j .before .match .readers) y (getD (a .behind .now) (l .before .before .loop .at) 0) (l .before .before .loop .left - 1)
+            ⊎ Done (a .numbers .now) (a .ends .now) (a .nodes .now) (a .first) (a .count) (a .until) (a .turned) (a .d) (a .start) (j .before .match .readers) y)
+            (sym (said-is j))
+            (turns (called l .pre .1 .0) _ _ _ _ _ _ _ _ _ _ _ _ (l .before .loop-test .taken) (going l) (e .1)),
       )
 
   members-returns : M.Need-returns (members-calls t) (members-at t) check-members.Post Inv-loop μ-loop
   members-returns c =
-      let a = c .before .before .before .before .before .args in
-      let inv = c .before .loop .inv in (
-        inv .0,
+      let i = c .before in
+      let a = i .before .before .before .before .args in (
+        i .loop .inv .0,
         ⊎-elim
-            (λ w. subst (λ (y : Bool). Say (a .numbers .now) (a .ends .now) (a .nodes .now) (a .d) (a .until) (a .turned) (a .first) (a .count) (readers-of (a .start)) (says y (readers-of (c .before .loop .readers)))) (sym (w .none-yet))
+            (λ w. subst (λ (y : Bool). Say (a .numbers .now) (a .ends .now) (a .nodes .now) (a .d) (a .until) (a .turned) (a .first) (a .count) (readers-of (a .start)) (says y (readers-of (i .loop .readers)))) (sym (other _ _ (w .not-so)))
             (w .all-say _ (none-left _ _ _ _ _ _ _ _ _ (c .loop-test .left))))
             (λ w. w .say)
-            (inv .1),
+            (i .loop .inv .1),
       )
+
+  members-returns-2 : M.Need-returns-2 (members-calls t) (members-at t) check-members.Post Inv-loop μ-loop
+  members-returns-2 c = let i = c .before .before .loop .inv in (i .0, ⊎-elim (λ w. absurd (not-both (c .if1 .taken) (w .not-so))) (λ w. w .say) (i .1))
 
 pub +check+check-members-spec : {M : Type 1} → statement M
 +check+check-members-spec =
@@ -329,11 +335,10 @@ pub +check+check-members-spec : {M : Type 1} → statement M
     (members-add-readers t)
     (λ c. search needs)
     (members-check-requires t)
-    (λ c. let l = replied-in t (c .before) in omega (arith, l .loop-test .taken))
+    (λ c. omega (arith, node-there t (replied-in t c)))
+    (λ c. node-there t (replied-in t c))
+    (λ c. search needs)
+    (λ c. search needs)
     (members-loop-again t)
-    (λ c. let l = replied-in t (c .before) in omega (arith, node-there t l, going t l .later))
-    (λ c. let l = replied-in t (c .before) in omega (arith, node-there t l, going t l .later))
-    (λ c. search needs)
-    (λ c. search needs)
-    (members-loop-again-2 t)
     (members-returns t)
+    (members-returns-2 t)
