@@ -1,20 +1,21 @@
 -- One call's reply and state, by the answer that a seek or a check hands back as a number or a truth value. Assumes nothing.
-use mathlib.Core.Path.{_≡_, refl, sym, ap}
-use mathlib.Core.Bool.{Bool, cond}
+use mathlib.Core.Path.{_≡_, refl, ap}
+use mathlib.Core.Bool.{Bool, true, false, cond, _&&_}
 use mathlib.Core.List.{List}
 use Prim.Native.Nat.{ℕ, zero, suc, _+_, _≤_, _<_}
 use native.Mathlib.Numerals.{add-one}
 use native.Mathlib.Omega.{arith}
-use borrow.Author.Tests.{lt-ltb, le-ltb}
+use lib.Dec.{leb, eqb}
+use borrow.Author.Tests.{leb-true, leb-false, eqb-true, lt-ltb, le-ltb, ne-eqb}
 use Rattle.model.specs.Lists.{top}
 use Rattle.model.specs.Expression.{Tree}
-use Rattle.model.specs.Machine.{check, call}
+use Rattle.model.specs.Machine.{call}
 use Rattle.model.specs.Steps as model
 use Rattle.model.specs.Steps.{says, seek, check-node}
 use Rattle.model.specs.declared.Reply.{Reply}
 use Rattle.model.specs.declared.Reply.the-variants.{Member, Finished, Yes, No, Unknown}
 use Rattle.model.specs.Run.{State, drawn, told, step}
-use Rattle.model.proofs.Order.{split}
+use Rattle.model.proofs.Order.{and-true, split}
 use Rattle.reader.specs.Sought.{found}
 use Rattle.reader.proofs.Answers.{found-at, found-end}
 use Rattle.engine.specs.States.{Raises}
@@ -47,18 +48,7 @@ module _ (x : ℕ) (rs : model.Readers) where
   draws = split ((drawn (found x rs) .0, record { floor = drawn (found x rs) .1 .floor; readers = rs }) ≡ drawn (found x rs)) x top (λ lt. rw (found-at x rs lt)) (λ ge. rw (found-end x rs ge))
 
 module _ (ls : List (List ℕ)) (t : Tree) (s : State) where
-  -- "Check with D below the floor moves nothing"
-  pub asks-below : (d : ℕ) → d < s .floor → _≡_ {A = Reply × State} (No, s) (step ls t s (check d))
-  unfolding step
-  asks-below d h = rw (step, lt-ltb d (s .floor) h)
-
-  -- a check that is made
-  pub asks : (d to : ℕ) (b : Bool) (rs : model.Readers) → s .floor ≤ d → to ≡ d → says b rs ≡ check-node ls t 0 d (s .readers)
-      → _≡_ {A = Reply × State} (cond b Yes No, record { floor = to; readers = rs }) (step ls t s (check d))
-  unfolding step told
-  asks d to b rs h e c = rw (step, le-ltb d (s .floor) h, ← c, e)
-
-  -- each code: a draw, at what the codes 0 to 2 raise the floor to
+  -- a draw, at what the codes 0 to 2 raise the floor to
   pub code-drawn : (code d to : ℕ) → code ≤ 2 → Raises (s .floor) code d to → drawn (seek ls t 0 to (s .readers)) ≡ step ls t s (call code d)
   unfolding step call
   code-drawn zero d to h e = ap (λ (n : ℕ). drawn (seek ls t 0 n (s .readers))) (e .0 refl)
@@ -66,14 +56,19 @@ module _ (ls : List (List ℕ)) (t : Tree) (s : State) where
   code-drawn (suc (suc zero)) d to h e = ap (λ (n : ℕ). drawn (seek ls t 0 n (s .readers))) (e .2 refl)
   code-drawn (suc (suc (suc code))) d to h e = absurd (omega arith)
 
-  pub code-check : (code d : ℕ) → code ≡ 3 → step ls t s (check d) ≡ step ls t s (call code d)
-  unfolding call
-  code-check code d e = ap (λ (n : ℕ). step ls t s (call n d)) (sym e)
+  -- a check that is made
+  pub code-made : (code d to : ℕ) (b : Bool) (rs : model.Readers) → eqb code 3 && leb (s .floor) d ≡ true → to ≡ d → says b rs ≡ check-node ls t 0 d (s .readers)
+      → _≡_ {A = Reply × State} (cond b Yes No, record { floor = to; readers = rs }) (step ls t s (call code d))
+  unfolding step call told
+  code-made code d to b rs made e c =
+      let (three, up) = and-true (eqb code 3) (leb (s .floor) d) made in
+      rw (eqb-true code 3 three, step, le-ltb d (s .floor) (leb-true (s .floor) d up), ← c, e)
 
-  pub code-other : (code d : ℕ) → 3 < code → _≡_ {A = Reply × State} (Unknown, s) (step ls t s (call code d))
+  -- a call that moves nothing: a check below the floor, or any other code
+  pub code-idle : (code d : ℕ) → 3 ≤ code → eqb code 3 && leb (s .floor) d ≡ false → _≡_ {A = Reply × State} (cond (eqb code 3) No Unknown, s) (step ls t s (call code d))
   unfolding step call
-  code-other zero d h = absurd (omega arith)
-  code-other (suc zero) d h = absurd (omega arith)
-  code-other (suc (suc zero)) d h = absurd (omega arith)
-  code-other (suc (suc (suc zero))) d h = absurd (omega arith)
-  code-other (suc (suc (suc (suc code)))) d h = refl
+  code-idle zero d h idle = absurd (omega arith)
+  code-idle (suc zero) d h idle = absurd (omega arith)
+  code-idle (suc (suc zero)) d h idle = absurd (omega arith)
+  code-idle (suc (suc (suc zero))) d h idle = rw (step, lt-ltb d (s .floor) (leb-false (s .floor) d idle))
+  code-idle (suc (suc (suc (suc code)))) d h idle = rw (ne-eqb (suc (suc (suc (suc code)))) 3 (λ e. omega arith))

@@ -1,20 +1,21 @@
 // A run: the tests in 01's order, then the calls one after another, each with the floor, places and moves that the call before
 // it left.
 ghost use mathlib.Core.Path.{_≡_};
-ghost use mathlib.Core.Bool.{cond};
+ghost use mathlib.Core.Bool.{cond, _&&_};
 ghost use Prim.Native.Nat.{_≤_, _<_, max};
+ghost use lib.Dec.{leb, eqb};
 ghost use lib.ListN.{length};
-ghost use Rattle.model.specs.declared.Reply.the-variants.{Yes, No};
+ghost use Rattle.model.specs.declared.Reply.the-variants.{Yes, No, Unknown};
 ghost use Rattle.model.specs.Lists.{top};
-ghost use Rattle.model.specs.Machine.{check, call, encode as encoded};
+ghost use Rattle.model.specs.Machine.{encode as encoded};
 ghost use Rattle.model.specs.Steps as model;
 ghost use Rattle.model.specs.Steps.{seek as seek-tree};
-ghost use Rattle.model.specs.Run.{drawn, step as step-of};
+ghost use Rattle.model.specs.Run.{drawn};
 ghost use Rattle.model.specs.Calls.{ran, run-call};
 ghost use Rattle.model.specs.Demands.{Third-demand-met};
 ghost use Rattle.reader.specs.Rows.{Standing, Ready};
 ghost use Rattle.reader.specs.Sought.{readers-of, found, Tallied};
-ghost use Rattle.engine.specs.States.{Raises, state-of, Steps-to, Answers};
+ghost use Rattle.engine.specs.States.{Raises, Steps-to, Answers};
 use expression::Form;
 use model::Reply;
 use model::RunResult;
@@ -103,67 +104,6 @@ pub fn draw(
     }
 }
 
-// "Check with D below the floor moves nothing".
-fn ask(
-    numbers: &[u32],
-    ends: &[u32],
-    nodes: &[u8; 48],
-    behind: &[usize; 48],
-    start: Readers,
-    floor: u64,
-    d: u32,
-) -> StepResult
-    requires { ⌜ Ready (now numbers) (now ends) (now nodes) (now behind) ⌝ }
-    requires { ⌜ Standing (length (now ends)) (now nodes) 0 ⌝ }
-    requires { ⌜ (floor ≤ top) × Tallied start ⌝ }
-    ensures { λ r. ⌜ (r .floor ≤ top) × Tallied (r .readers) ⌝ }
-    ensures { λ r. ⌜ Steps-to (now (numbers .entry)) (now (ends .entry)) (now (nodes .entry)) (λ ls t. step-of ls t (state-of floor start) (check d)) r ⌝ }
-{
-    if reader::wide(d) < floor {
-        return StepResult {
-            reply: Reply::No,
-            floor,
-            readers: start,
-        };
-    }
-    let a = checks::check(numbers, ends, nodes, behind, 0, start, d);
-    let reply = told_reply(a.yes);
-    let readers = a.readers;
-    StepResult {
-        reply,
-        floor: reader::wide(d),
-        readers,
-    }
-}
-
-// A call that draws nothing: a check, or "any other code: unknown, nothing changes".
-fn tell(
-    numbers: &[u32],
-    ends: &[u32],
-    nodes: &[u8; 48],
-    behind: &[usize; 48],
-    start: Readers,
-    floor: u64,
-    code: u8,
-    d: u32,
-) -> StepResult
-    requires { ⌜ Ready (now numbers) (now ends) (now nodes) (now behind) ⌝ }
-    requires { ⌜ Standing (length (now ends)) (now nodes) 0 ⌝ }
-    requires { ⌜ (floor ≤ top) × Tallied start ⌝ }
-    requires { ⌜ 3 ≤ code ⌝ }
-    ensures { λ r. ⌜ (r .floor ≤ top) × Tallied (r .readers) ⌝ }
-    ensures { λ r. ⌜ Steps-to (now (numbers .entry)) (now (ends .entry)) (now (nodes .entry)) (λ ls t. step-of ls t (state-of floor start) (call code d)) r ⌝ }
-{
-    if code == 3 {
-        return ask(numbers, ends, nodes, behind, start, floor, d);
-    }
-    StepResult {
-        reply: Reply::Unknown,
-        floor,
-        readers: start,
-    }
-}
-
 // "Codes 0 to 2 seek the raised floor": what they raise it to.
 fn target(floor: u64, code: u8, d: u32) -> u64
     requires { ⌜ (floor ≤ top) × (code < 3) ⌝ }
@@ -174,6 +114,27 @@ fn target(floor: u64, code: u8, d: u32) -> u64
         1 => raised(floor, reader::wide(d)),
         2 => raised(floor, reader::wide(d) + 1),
         _ => floor,
+    }
+}
+
+// Whether a call is a check that is made: "Check with D below the floor moves nothing".
+fn asks(floor: u64, code: u8, d: u32) -> bool
+    ensures { λ r. ⌜ r ≡ eqb code 3 && leb floor d ⌝ }
+{
+    if code == 3 {
+        floor <= reader::wide(d)
+    } else {
+        false
+    }
+}
+
+// The reply to a call that moves nothing: no to a check below the floor; "Any other code: unknown, nothing changes".
+fn idle_reply(code: u8) -> Reply
+    ensures { λ r. ⌜ r ≡ cond (eqb code 3) No Unknown ⌝ }
+{
+    match code {
+        3 => Reply::No,
+        _ => Reply::Unknown,
     }
 }
 
@@ -216,7 +177,7 @@ fn answer(
     while i < codes.len() {
         let code = codes[i];
         let d = arguments[i];
-        // draws come straight from here, so that the readers are copied in and out of a seek once each
+        // draws and checks come straight from here, so that the readers are copied in and out of a seek or a check once each
         let mut word = 0;
         if code < 3 {
             let to = target(floor, code, d);
@@ -225,12 +186,15 @@ fn answer(
             word = encode(reply);
             floor = s.floor;
             readers = s.readers;
-        } else {
-            let s = tell(numbers, ends, nodes, behind, readers, floor, code, d);
-            let reply = s.reply;
+        } else if asks(floor, code, d) {
+            let a = checks::check(numbers, ends, nodes, behind, 0, readers, d);
+            let reply = told_reply(a.yes);
             word = encode(reply);
-            floor = s.floor;
-            readers = s.readers;
+            floor = reader::wide(d);
+            readers = a.readers;
+        } else {
+            let reply = idle_reply(code);
+            word = encode(reply);
         }
         replies[i] = word;
         i += 1;

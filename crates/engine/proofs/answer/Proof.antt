@@ -1,6 +1,6 @@
 -- `answer` meets its contract. The loop's invariant, said backwards: what is sent back from here on is what is sent back from the
 -- start. The measure is how many calls are left. Assumes nothing.
-use mathlib.Core.Path.{_≡_, refl, _∙_}
+use mathlib.Core.Path.{_≡_, refl, sym, _∙_}
 use mathlib.Core.Logic.{⊎-elim}
 use mathlib.Core.List.{List}
 use Prim.Native.Nat.{ℕ, _-_, _≤_}
@@ -18,7 +18,7 @@ use Rattle.reader.specs.Rows.{Stands}
 use Rattle.reader.specs.Sought.{Tallied}
 use Rattle.reader.proofs.Moves.{none-moved}
 use Rattle.engine.specs.States.{state-of}
-use Rattle.engine.proofs.Replies.{code-drawn}
+use Rattle.engine.proofs.Replies.{code-drawn, code-made, code-idle}
 use Rattle.engine.proofs.Sends.{sends, sends-start, sends-none, sends-one}
 use Rattle.engine.proofs.answer.Statement.{statement}
 use Rattle.engine.proofs.answer.Tie as tie
@@ -56,14 +56,29 @@ draw-requires c κs =
 encode-requires : tie.Need-encode-requires Inv-loop μ-loop
 encode-requires c κs = search needs
 
-tell-requires : tie.Need-tell-requires Inv-loop μ-loop
-tell-requires c κs =
-    let l = c .before .before .before .before .loop in
-    let e = c .before .before .before .before .before .before .before .before .before .before in
-    (e .pre .0, (e .pre .1 .0, ((l .inv .0, l .inv .1), c .if1 .left)))
+asks-requires : tie.Need-asks-requires Inv-loop μ-loop
+asks-requires c κs = search needs
+
+check-requires : tie.Need-check-requires Inv-loop μ-loop
+check-requires c κs =
+    let l = c .before .before .before .before .before .before .loop in
+    let e = c .before .before .before .before .before .before .before .before .before .before .before .before in
+    (e .pre .0, (e .pre .1 .0, l .inv .1))
+
+told-reply-requires : tie.Need-told-reply-requires Inv-loop μ-loop
+told-reply-requires c κs = search needs
 
 encode-requires-2 : tie.Need-encode-requires-2 Inv-loop μ-loop
 encode-requires-2 c κs = search needs
+
+wide-requires : tie.Need-wide-requires Inv-loop μ-loop
+wide-requires c κs = search needs
+
+idle-reply-requires : tie.Need-idle-reply-requires Inv-loop μ-loop
+idle-reply-requires c κs = search needs
+
+encode-requires-3 : tie.Need-encode-requires-3 Inv-loop μ-loop
+encode-requires-3 c κs = search needs
 
 mul-replies : tie.Need-mul-replies Inv-loop μ-loop
 mul-replies c = search needs
@@ -77,7 +92,7 @@ add-i c = search needs
 loop-less : tie.Need-loop-less Inv-loop μ-loop
 loop-less c = search needs
 
--- what either branch leaves: a reply's word, floor and readers, as the step has them
+-- what each branch leaves: a reply's word, floor and readers, as the step has them
 record Turned (numbers ends nodes : List ℕ) (s : State) (code d : ℕ) (readers : Readers) (floor word : ℕ) : Type 0 where
   reply : Reply
   low : floor ≤ top
@@ -88,6 +103,7 @@ record Turned (numbers ends nodes : List ℕ) (s : State) (code d : ℕ) (reader
 turned : (c : tie.Joined1 Inv-loop μ-loop) → let l = c .before .before .before .before .loop in let args = c .before .before .before .before .before .before .before .before .before .before .args in
     Turned (args .numbers .now) (args .ends .now) (args .nodes .now) (state-of (l .floor) (l .readers)) (getD (args .codes .now) (l .i) 0) (getD (args .arguments .now) (l .i) 0) (c .if1 .readers) (c .if1 .floor) (c .if1 .word)
 turned c =
+    let l = c .before .before .before .before .loop in
     ⊎-elim
     (λ w. rw (w .5, w .6, w .7) (record {
       reply = w .2 .result .reply;
@@ -96,13 +112,21 @@ turned c =
       steps = λ t h. w .2 .ensures .1 t h ∙ code-drawn _ t _ _ _ _ (omega (arith, w .0 .taken)) (w .1 .ensures .1);
       says = w .3 .ensures;
     }))
-    (λ w. rw (w .4, w .5, w .6) (record {
-      reply = w .1 .result .reply;
-      low = w .1 .ensures .0 .0;
-      tallied = w .1 .ensures .0 .1;
-      steps = w .1 .ensures .1;
-      says = w .2 .ensures;
+    (⊎-elim
+    (λ w. rw (w .8, w .9, w .10) (record {
+      reply = w .4 .result;
+      low = omega (arith, w .6 .ensures, c .before .shared-slice-known6 .given (l .i) .fits);
+      tallied = search (w .3 .ensures .0, l .inv .1);
+      steps = λ t h. rw (w .4 .ensures) (code-made _ t _ _ _ _ (w .3 .result .yes) _ (sym (w .1 .ensures) ∙ w .2 .taken) (w .6 .ensures) (w .3 .ensures .1 t h));
+      says = w .5 .ensures;
     }))
+    (λ w. rw (w .5, w .6, w .7) (record {
+      reply = w .3 .result;
+      low = omega arith;
+      tallied = l .inv .1;
+      steps = λ t h. rw (w .3 .ensures) (code-idle _ t _ _ _ (w .0 .left) (sym (w .1 .ensures) ∙ w .2 .left));
+      says = w .4 .ensures;
+    })))
     (c .if1 .came)
 
 loop-again : tie.Need-loop-again Inv-loop μ-loop
@@ -141,8 +165,13 @@ answer-spec =
     target-requires
     draw-requires
     encode-requires
-    tell-requires
+    asks-requires
+    check-requires
+    told-reply-requires
     encode-requires-2
+    wide-requires
+    idle-reply-requires
+    encode-requires-3
     mul-replies
     slice-write-replies
     add-i
