@@ -101,6 +101,7 @@ fn check_members(
 {
     let to = reader::wide(d);
     let mut readers = start;
+    // what was said last; ahead of the first, the reply that is not sought
     let mut yes = !until;
     let mut at = first;
     let mut left = count;

@@ -27,7 +27,7 @@ state-of floor r = record { floor = floor; readers = readers-of r }
 abbrev pub stepped-of : StepResult → Reply × State
 stepped-of s = (s .reply, state-of (s .floor) (s .readers))
 
--- what a call leaves, whatever tree stands at the first node
+-- what a draw leaves, whatever tree stands at the first node
 abbrev pub Steps-to : (numbers ends nodes : List ℕ) → (List (List ℕ) → Tree → Reply × State) → StepResult → Type 0
 Steps-to numbers ends nodes of r = (t : Tree) → Stands (length ends) nodes t 0 → stepped-of r ≡ of (lists-from numbers 0 ends) t
 

@@ -24,7 +24,7 @@ use reader::Readers;
 // The highest floor, and so the highest bookmark: the first whole number that is no number any more.
 const TOP: u64 = 4294967296;
 
-// What one call leaves to the next, and its reply.
+// What a draw leaves to the next call, and its reply.
 pub struct StepResult {
     pub reply: Reply,
     pub floor: u64,
