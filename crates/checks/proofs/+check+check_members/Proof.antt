@@ -3,7 +3,7 @@
 use borrow.Author.Needs.{needs}
 use borrow.Fn.Kinds.{In}
 use borrow.Fn.PlainCycle.{Measures, is, falls, and}
-use mathlib.Core.Path.{_≡_, refl, sym, ap, subst, _∙_}
+use mathlib.Core.Path.{_≡_, refl, sym, ap, _∙_}
 use mathlib.Core.Bool.{Bool, true, false, not, Bool·beq}
 use mathlib.Core.Logic.{_⊎_, inl, inr, ⊎-elim}
 use mathlib.Core.List.{List}
@@ -270,24 +270,17 @@ module _ (t : ℕ) where
   members-loop-again c =
       let j = c .before in
       let l = replied-in j in
-      let a = called l .args in
       let e = member-step (j .before) in (
         e .0,
-        subst
-            (λ (y : Bool). Going (a .numbers .now) (a .ends .now) (a .nodes .now) (a .first) (a .count) (a .until) (a .turned) (a .d) (a .start) (j .before .match .readers) y (getD (a .behind .now) (l .before .before .loop .at) 0) (l .before .before .loop .left - 1)
-            ⊎ Done (a .numbers .now) (a .ends .now) (a .nodes .now) (a .first) (a .count) (a .until) (a .turned) (a .d) (a .start) (j .before .match .readers) y)
-            (sym (said-is j))
-            (turns (called l .pre .1 .0) _ _ _ _ _ _ _ _ _ _ _ _ (l .before .loop-test .taken) (going l) (e .1)),
+        rw (said-is j) (turns (called l .pre .1 .0) _ _ _ _ _ _ _ _ _ _ _ _ (l .before .loop-test .taken) (going l) (e .1)),
       )
 
   members-returns : M.Need-returns (members-calls t) (members-at t) check-members.Post Inv-loop μ-loop
   members-returns c =
-      let i = c .before in
-      let a = i .before .before .before .before .args in (
+      let i = c .before in (
         i .loop .inv .0,
         ⊎-elim
-            (λ w. subst (λ (y : Bool). Say (a .numbers .now) (a .ends .now) (a .nodes .now) (a .d) (a .until) (a .turned) (a .first) (a .count) (readers-of (a .start)) (says y (readers-of (i .loop .readers)))) (sym (other _ _ (w .not-so)))
-            (w .all-say _ (none-left _ _ _ _ _ _ _ _ _ (c .loop-test .left))))
+            (λ w. rw (other (i .loop .yes) (i .before .before .before .before .args .until) (w .not-so)) (w .all-say _ (none-left _ _ _ _ _ _ _ _ _ (c .loop-test .left))))
             (λ w. w .say)
             (i .loop .inv .1),
       )
