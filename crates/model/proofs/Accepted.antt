@@ -12,7 +12,7 @@ use lib.Seq.{getD-take, getD-drop}
 use Rattle.model.specs.declared.Node.{Node}
 use Rattle.model.specs.declared.Node.the-variants.{Leaf, Difference, Union, Intersection}
 use Rattle.model.specs.Outcome.{Outcome, refused, accepted, _>>=_, _>>_, require}
-use Rattle.model.specs.Lists.{top, Numbers, rises, ascending, all-ascending, part, lists-from, lists-of, count-holds, ends-hold}
+use Rattle.model.specs.Lists.{top, Numbers, rises, ascending, all-ascending, part, lists-from, Lent, lists-of, count-holds, ends-hold}
 use Rattle.model.specs.Expression.{Tree, leaf, difference, union, intersection, Members, one, more, size, sizes, depth, depths, count}
 use Rattle.model.specs.Fields.{value, take-field, bits, only-fill}
 use Rattle.model.specs.Forms.{node-of, take-byte, take-rest, take-kind, take-node, read-members, operator, read-below, read-tree, read-row, read-packed}
@@ -73,22 +73,22 @@ lists-up numbers start (stop ∷ ends) n h zero =
 lists-up numbers start (stop ∷ ends) n h (suc k) =
     lists-up numbers stop ends n (and-true (ascending (part numbers start stop)) (all-ascending (lists-from numbers stop ends)) h .1) k
 
-pub record Accepted-lists (numbers ends : List ℕ) (ls : List (List ℕ)) : Type 0 where
-  pub count : count-holds (length ends) ≡ true
-  pub hold : ends-hold (length numbers) 0 ends ≡ true
-  pub rise : all-ascending (lists-from numbers 0 ends) ≡ true
-  pub are : lists-from numbers 0 ends ≡ ls
+pub record Accepted-lists (l : Lent) (ls : List (List ℕ)) : Type 0 where
+  pub count : count-holds (length (l .ends)) ≡ true
+  pub hold : ends-hold (length (l .numbers)) 0 (l .ends) ≡ true
+  pub rise : all-ascending (lists-from (l .numbers) 0 (l .ends)) ≡ true
+  pub are : lists-from (l .numbers) 0 (l .ends) ≡ ls
 
-pub lists-accepted : (numbers ends : List ℕ) (ls : List (List ℕ)) → lists-of numbers ends ≡ accepted ls → Accepted-lists numbers ends ls
+pub lists-accepted : (l : Lent) (ls : List (List ℕ)) → lists-of l ≡ accepted ls → Accepted-lists l ls
 unfolding lists-of
-lists-accepted numbers ends ls h =
-    let a = required 7 (count-holds (length ends)) _ ls h in
-    let b = required 10 (ends-hold (length numbers) 0 ends) _ ls (a .1) in
-    let c = required 11 (all-ascending (lists-from numbers 0 ends)) _ ls (b .1) in
+lists-accepted l ls h =
+    let a = required 7 (count-holds (length (l .ends))) _ ls h in
+    let b = required 10 (ends-hold (length (l .numbers)) 0 (l .ends)) _ ls (a .1) in
+    let c = required 11 (all-ascending (lists-from (l .numbers) 0 (l .ends))) _ ls (b .1) in
     record { count = a .0; hold = b .0; rise = c .0; are = cc (c .1) }
 
-pub accepted-up : (numbers ends : List ℕ) (ls : List (List ℕ)) → Numbers numbers → lists-of numbers ends ≡ accepted ls → (k : ℕ) → Up 0 (getD ls k [])
-accepted-up numbers ends ls n h k = let a = lists-accepted numbers ends ls h in rw (a .are) at (lists-up numbers 0 ends n (a .rise) k)
+pub accepted-up : (l : Lent) (ls : List (List ℕ)) → Numbers (l .numbers) → lists-of l ≡ accepted ls → (k : ℕ) → Up 0 (getD ls k [])
+accepted-up l ls n h k = let a = lists-accepted l ls h in rw (a .are) at (lists-up (l .numbers) 0 (l .ends) n (a .rise) k)
 
 -- ---- expressions
 

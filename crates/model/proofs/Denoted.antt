@@ -1,19 +1,17 @@
--- The denoted set: every member is a number of some list at a leaf, what `least-from` is, and the members ascending.
--- Assumes nothing.
+-- The denoted set: every member is a number of some list at a leaf; the row of its members, and those of them at or above
+-- a floor. Assumes nothing.
 use mathlib.Core.Path.{_≡_, refl, sym, ap, _∙_}
 use mathlib.Core.Bool.{Bool, true, false, not, _&&_, _||_}
 use mathlib.Core.List.{List, [], _∷_, _++_}
-use mathlib.Core.Option.{Option, none, some}
 use Prim.Native.Nat.{ℕ, zero, suc, _≤_, _<_}
 use native.Mathlib.Omega.{arith}
 use lib.Dec.{ltb, leb, eqb}
-use borrow.Author.Tests.{lt-ltb, ltb-true, ltb-false, leb-true, le-leb, eqb-true, eqb-false, eq-eqb}
+use borrow.Author.Tests.{lt-ltb, le-ltb, ltb-true, ltb-false, leb-true, leb-false, eqb-true, eqb-false, eq-eqb, ne-eqb}
 use lib.ListN.{length, getD}
 use Rattle.model.specs.Lists.{top, rises, ascending}
 use Rattle.model.specs.Expression.{Tree, leaf, difference, union, intersection, Members, one, more}
-use Rattle.model.specs.Sets.{among, member, member-some, member-all, all-numbers, least, lower, least-from, insert, select, members-from}
-use Rattle.model.specs.Demands.{leaves, leaves-all}
-use Rattle.model.proofs.Order.{or-right, and-right, and-true, or-true, not-both, split, min-case, Up}
+use Rattle.model.specs.Sets.{among, member, member-some, member-all, all-numbers, insert, select, members}
+use Rattle.model.proofs.Order.{or-right, and-right, and-true, or-true, not-both, Up, up-low, up-none}
 
 -- ---- where a member stands
 
@@ -37,6 +35,18 @@ unfolding all-numbers
 among-all x [] k h = h
 among-all x (l ∷ ls) zero h = among-left x l (all-numbers ls) h
 among-all x (l ∷ ls) (suc k) h = among-right x l (all-numbers ls) (among-all x ls k h)
+
+-- the list numbers at the leaves, in expression order: "One list may stand at several leaves"
+unfoldable mutual
+  pub leaves : Tree → List ℕ
+  leaves (leaf k) = k ∷ []
+  leaves (difference s t) = leaves s ++ leaves t
+  leaves (union ts) = leaves-all ts
+  leaves (intersection ts) = leaves-all ts
+
+  pub leaves-all : Members → List ℕ
+  leaves-all (one t) = leaves t
+  leaves-all (more t ts) = leaves t ++ leaves-all ts
 
 -- a list at a leaf that holds x
 pub record At-leaf (ls : List (List ℕ)) (ks : List ℕ) (x : ℕ) : Type 0 where
@@ -73,88 +83,6 @@ module _ (ls : List (List ℕ)) (x : ℕ) where
 
 pub member-in : (ls : List (List ℕ)) (t : Tree) (x : ℕ) → member ls t x ≡ true → among x (all-numbers ls) ≡ true
 member-in ls t x h = let l = member-at-leaf ls x t h in among-all x ls (l .number) (l .holds)
-
--- ---- the least member not below the floor
-
--- of a row: it stands there, passes, and none that passes stands below it; absent only if none passes
-abbrev Is-least : (ℕ → Bool) → List ℕ → Option ℕ → Type 0
-Is-least p xs none = (x : ℕ) → among x xs ≡ true → p x ≡ false
-Is-least p xs (some a) = (p a ≡ true) × ((x : ℕ) → among x xs ≡ true → p x ≡ true → a ≤ x)
-
-least-lower : (p : ℕ → Bool) (x : ℕ) (xs : List ℕ) → p x ≡ true → (r : Option ℕ) → Is-least p xs r → Is-least p (x ∷ xs) (lower x r)
-unfolding lower among
-least-lower p x xs h none l = (h, λ y m q. or-true (eqb y x) (among y xs) (λ e. omega (arith, eqb-true y x e)) (λ i. absurd (not-both q (l y i))) m)
-least-lower p x xs h (some a) l = (
-  min-case (λ z. p z ≡ true) x a h (l .0),
-  λ y m q. or-true (eqb y x) (among y xs) (λ e. omega (arith, eqb-true y x e)) (λ i. omega (arith, l .1 y i q)) m,
-)
-
-least-skip : (p : ℕ → Bool) (x : ℕ) (xs : List ℕ) → p x ≡ false → (r : Option ℕ) → Is-least p xs r → Is-least p (x ∷ xs) r
-unfolding among
-least-skip p x xs h none l = λ y m. or-true (eqb y x) (among y xs) (λ e. cc (eqb-true y x e, h)) (λ i. l y i) m
-least-skip p x xs h (some a) l = (l .0, λ y m q. or-true (eqb y x) (among y xs) (λ e. absurd (not-both q (cc (eqb-true y x e, h)))) (λ i. l .1 y i q) m)
-
-least-is : (p : ℕ → Bool) (xs : List ℕ) → Is-least p xs (least p xs)
-unfolding least among
-least-is p [] = λ x m. cc (m)
-least-is p (x ∷ xs) = go (p x) refl (least-is p xs)
-  where
-    go : (b : Bool) → p x ≡ b → Is-least p xs (least p xs) → Is-least p (x ∷ xs) (elim b [ true ↦ lower x (least p xs) | false ↦ least p xs ])
-    go true h l = least-lower p x xs h (least p xs) l
-    go false h l = least-skip p x xs h (least p xs) l
-
--- no member from the floor up; or a member there, and none between
-abbrev pub No-member : List (List ℕ) → Tree → ℕ → Type 0
-No-member ls t floor = (x : ℕ) → floor ≤ x → member ls t x ≡ false
-
-pub record Least-member (ls : List (List ℕ)) (t : Tree) (floor a : ℕ) : Type 0 where
-  pub from : floor ≤ a
-  pub is : member ls t a ≡ true
-  pub gap : (x : ℕ) → floor ≤ x → x < a → member ls t x ≡ false
-
-abbrev pub Least-from : List (List ℕ) → Tree → ℕ → Option ℕ → Type 0
-Least-from ls t floor none = No-member ls t floor
-Least-from ls t floor (some a) = Least-member ls t floor a
-
-module _ (ls : List (List ℕ)) (t : Tree) (floor : ℕ) where
-  passes : (x : ℕ) → floor ≤ x → member ls t x ≡ true → leb floor x && member ls t x ≡ true
-  passes x h m = cc (le-leb floor x h, m)
-
-  not-member : (x : ℕ) → (member ls t x ≡ true → ⊥) → member ls t x ≡ false
-  not-member x f = go (member ls t x) refl
-    where
-      go : (b : Bool) → member ls t x ≡ b → b ≡ false
-      go true e = absurd (f e)
-      go false e = refl
-
-  -- `least member not below the floor` is least, is a member, and is absent only if there is none
-  pub least-from-is : Least-from ls t floor (least-from ls t floor)
-  unfolding least-from
-  least-from-is = go (least-from ls t floor) (least-is (λ x. leb floor x && member ls t x) (all-numbers ls))
-    where
-      go : (r : Option ℕ) → Is-least (λ x. leb floor x && member ls t x) (all-numbers ls) r → Least-from ls t floor r
-      go none l = λ x h. not-member x (λ m. not-both (passes x h m) (l x (member-in ls t x m)))
-      go (some a) l = record {
-        from = leb-true floor a (and-true (leb floor a) (member ls t a) (l .0) .0);
-        is = and-true (leb floor a) (member ls t a) (l .0) .1;
-        gap = λ x h lt. not-member x (λ m. let z : a ≤ x = l .1 x (member-in ls t x m) (passes x h m) in absurd (omega arith));
-      }
-
-  -- and nothing else is
-  pub least-from-none : No-member ls t floor → least-from ls t floor ≡ none
-  least-from-none n = go (least-from ls t floor) least-from-is
-    where
-      go : (r : Option ℕ) → Least-from ls t floor r → r ≡ none
-      go none l = refl
-      go (some a) l = absurd (not-both (l .is) (n a (l .from)))
-
-  pub least-from-some : (a : ℕ) → Least-member ls t floor a → least-from ls t floor ≡ some a
-  least-from-some a m = go (least-from ls t floor) least-from-is
-    where
-      go : (r : Option ℕ) → Least-from ls t floor r → r ≡ some a
-      go none l = absurd (not-both (m .is) (l a (m .from)))
-      go (some b) l = ap some (split (b ≡ a) a b (λ lt. absurd (not-both (m .is) (l .gap a (m .from) lt)))
-          (λ ge. split (b ≡ a) b a (λ lt. absurd (not-both (l .is) (m .gap b (l .from) lt))) (λ ge′. omega arith)))
 
 -- ---- the members, ascending
 
@@ -237,24 +165,18 @@ all-small (l ∷ ls) up x m = or-true (among x l) (among x (all-numbers ls)) (λ
     go lo [] u i = absurd (not-both i refl)
     go lo (y ∷ ys) u i = or-true (eqb x y) (among x ys) (λ e. omega (arith, eqb-true x y e, u .1)) (λ j. go (suc y) ys (u .2) j) i
 
-module _ (ls : List (List ℕ)) (up : (k : ℕ) → Up 0 (getD ls k [])) (t : Tree) (bookmark : ℕ) where
-  pub members-up : Up bookmark (members-from ls t bookmark)
-  unfolding members-from
-  members-up = select-up (λ x. leb bookmark x && member ls t x) bookmark (all-numbers ls)
-      (λ x m q. (leb-true bookmark x (and-true (leb bookmark x) (member ls t x) q .0), all-small ls up x m))
+pub members-up : (ls : List (List ℕ)) → ((k : ℕ) → Up 0 (getD ls k [])) → (t : Tree) → Up 0 (members ls t)
+unfolding members
+members-up ls up t = select-up (member ls t) 0 (all-numbers ls) (λ x m q. (omega arith, all-small ls up x m))
 
-  -- the row of members holds each member at or above the bookmark, and nothing else
-  pub members-are : (x : ℕ) → among x (members-from ls t bookmark) ≡ leb bookmark x && member ls t x
-  unfolding members-from
-  members-are x = select-among (λ y. leb bookmark y && member ls t y) x (all-numbers ls) ∙ go (leb bookmark x) (member ls t x) (λ m. member-in ls t x m)
-    where
-      go : (a b : Bool) → (b ≡ true → among x (all-numbers ls) ≡ true) → (a && b) && among x (all-numbers ls) ≡ a && b
-      go true true h = h refl
-      go true false h = refl
-      go false b h = refl
-
-  pub members-above : (x : ℕ) → bookmark ≤ x → member ls t x ≡ among x (members-from ls t bookmark)
-  members-above x h = cc (members-are x, le-leb bookmark x h)
+-- the row of members holds each member, and nothing else
+pub members-are : (ls : List (List ℕ)) (t : Tree) (x : ℕ) → among x (members ls t) ≡ member ls t x
+unfolding members
+members-are ls t x = select-among (member ls t) x (all-numbers ls) ∙ go (member ls t x) (λ m. member-in ls t x m)
+  where
+    go : (b : Bool) → (b ≡ true → among x (all-numbers ls) ≡ true) → b && among x (all-numbers ls) ≡ b
+    go true h = h refl
+    go false h = refl
 
 -- they are no more than all numbers
 insert-few : (x : ℕ) (ys : List ℕ) → length (insert x ys) ≤ suc (length ys)
@@ -276,6 +198,53 @@ select-few p (x ∷ xs) = go (p x) (select-few p xs)
     go true h = omega (arith, insert-few x (select p xs))
     go false h = omega arith
 
-pub members-few : (ls : List (List ℕ)) (t : Tree) (bookmark : ℕ) → length (members-from ls t bookmark) ≤ length (all-numbers ls)
-unfolding members-from
-members-few ls t bookmark = select-few (λ x. leb bookmark x && member ls t x) (all-numbers ls)
+pub members-few : (ls : List (List ℕ)) (t : Tree) → length (members ls t) ≤ length (all-numbers ls)
+unfolding members
+members-few ls t = select-few (member ls t) (all-numbers ls)
+
+-- ---- those of a row at or above a floor
+
+unfoldable pub from : ℕ → List ℕ → List ℕ
+from floor [] = []
+from floor (x ∷ xs) = elim (ltb x floor) [ true ↦ from floor xs | false ↦ x ∷ xs ]
+
+pub from-up : (floor lo : ℕ) (xs : List ℕ) → Up lo xs → Up floor (from floor xs)
+unfolding from
+from-up floor lo [] u = tt
+from-up floor lo (x ∷ xs) u = go (ltb x floor) refl (from-up floor (suc x) xs (u .2))
+  where
+    go : (b : Bool) → ltb x floor ≡ b → Up floor (from floor xs) → Up floor (elim b [ true ↦ from floor xs | false ↦ x ∷ xs ])
+    go true h ih = ih
+    go false h ih = (ltb-false x floor h, u .1, u .2)
+
+pub from-among : (floor lo : ℕ) (xs : List ℕ) → Up lo xs → (y : ℕ) → among y (from floor xs) ≡ leb floor y && among y xs
+unfolding from among
+from-among floor lo [] u y = sym (and-right (leb floor y) false refl)
+from-among floor lo (x ∷ xs) u y = go (ltb x floor) refl (from-among floor (suc x) xs (u .2) y)
+  where
+    -- the first one stands below the floor: y is another, or below the floor too
+    skip : (b : Bool) → leb floor y ≡ b → x < floor → b && among y xs ≡ b && (eqb y x || among y xs)
+    skip true h lt = cc (ne-eqb y x (λ e. omega (arith, leb-true floor y h)))
+    skip false h lt = refl
+
+    -- it does not: nothing of the row stands below the floor
+    keep : (b : Bool) → leb floor y ≡ b → floor ≤ x → eqb y x || among y xs ≡ b && (eqb y x || among y xs)
+    keep true h le = refl
+    keep false h le = cc (ne-eqb y x (λ e. omega (arith, leb-false floor y h)), up-none (suc x) y xs (u .2) (omega (arith, leb-false floor y h)))
+
+    go : (b : Bool) → ltb x floor ≡ b → among y (from floor xs) ≡ leb floor y && among y xs
+        → among y (elim b [ true ↦ from floor xs | false ↦ x ∷ xs ]) ≡ leb floor y && (eqb y x || among y xs)
+    go true h ih = ih ∙ skip (leb floor y) refl (ltb-true x floor h)
+    go false h ih = keep (leb floor y) refl (ltb-false x floor h)
+
+pub from-zero : (xs : List ℕ) → from 0 xs ≡ xs
+unfolding from
+from-zero [] = refl
+from-zero (x ∷ xs) = rw (le-ltb x 0 (omega arith), from)
+
+-- the members at or above a bookmark, ascending
+abbrev pub members-from : List (List ℕ) → Tree → ℕ → List ℕ
+members-from ls t bookmark = from bookmark (members ls t)
+
+pub members-from-are : (ls : List (List ℕ)) → ((k : ℕ) → Up 0 (getD ls k [])) → (t : Tree) (bookmark x : ℕ) → among x (members-from ls t bookmark) ≡ leb bookmark x && member ls t x
+members-from-are ls up t bookmark x = from-among bookmark 0 (members ls t) (members-up ls up t) x ∙ ap (λ (b : Bool). leb bookmark x && b) (members-are ls t x)

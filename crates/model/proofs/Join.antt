@@ -15,14 +15,15 @@ use Rattle.model.specs.declared.Reply.{Reply}
 use Rattle.model.specs.declared.Reply.the-variants.{Yes, No}
 use Rattle.model.specs.Lists.{top}
 use Rattle.model.specs.Expression.{Tree, leaf, difference, union, intersection, Members, one, more, size}
-use Rattle.model.specs.Sets.{member, member-some, member-all}
+use Rattle.model.specs.Sets.{among, member, member-some, member-all, members}
 use Rattle.model.specs.Machine.{Call, next, at-or-past, past, check, other, draw, reply, machine}
 use Rattle.model.specs.Steps.{Readers, Found, end, at, Checked, says, seek, check-node}
-use Rattle.model.specs.Run.{State, drawn, told, step, steps, begin, run}
+use Rattle.model.specs.Run.{State, drawn, told, step, steps, Start, Low, begin, run}
 use Rattle.model.proofs.Order.{Up, untouched, none-moved}
 use Rattle.model.proofs.Residual.{After, Sought, residual, residual-some, residual-all}
 use Rattle.model.proofs.Seek.{seek-is}
 use Rattle.model.proofs.Check.{Told, check-is}
+use Rattle.model.proofs.Denoted.{members-up, members-are}
 use Rattle.model.proofs.Plain.{draw-none, draw-some}
 
 -- readers at the start have everything left
@@ -57,11 +58,15 @@ All-small [] = Unit {0}
 All-small (c ∷ cs) = Small c × All-small cs
 
 module _ (ls : List (List ℕ)) (up : (k : ℕ) → Up 0 (getD ls k [])) (t : Tree) where
+  -- the denoted set
+  abbrev set : List ℕ
+  set = members ls t
+
   -- between two calls
   record Ok (s : State) : Type 0 where
     fits : size t ≤ length (s .readers .places)
     low : s .floor ≤ top
-    agrees : (x : ℕ) → s .floor ≤ x → residual ls t 0 (s .readers .places) x ≡ member ls t x
+    agrees : (x : ℕ) → s .floor ≤ x → residual ls t 0 (s .readers .places) x ≡ among x set
 
   -- one call: the machine's reply and floor
   record Joined (a : Reply × State) (b : Reply × ℕ) : Type 0 where
@@ -76,34 +81,34 @@ module _ (ls : List (List ℕ)) (up : (k : ℕ) → Up 0 (getD ls k [])) (t : Tr
     agrees = λ x h. a .kept .above x (omega arith) ∙ o .agrees x (omega arith);
   }
 
-  drawn-joined : (s : State) → Ok s → (e : ℕ) → s .floor ≤ e → e ≤ top → (r : Found) → Sought 0 (0 + size t) (residual ls t 0) e (s .readers .places) r → Joined (drawn r) (draw ls t e)
+  drawn-joined : (s : State) → Ok s → (e : ℕ) → s .floor ≤ e → e ≤ top → (r : Found) → Sought 0 (0 + size t) (residual ls t 0) e (s .readers .places) r → Joined (drawn r) (draw set e)
   unfolding drawn
   drawn-joined s o e fe et (end rs) q =
-      rw (draw-none ls t e (λ x h. sym (o .agrees x (omega arith)) ∙ q .1 x h))
+      rw (draw-none set e (λ x h. sym (o .agrees x (omega arith)) ∙ q .1 x h))
       (record { same = refl; floors = refl; ok = sought-ok s o e rs top fe et (omega arith) (q .0) })
   drawn-joined s o e fe et (at a rs) q =
-      rw (draw-some ls t e a (record {
-        from = q .1 .from;
+      rw (draw-some 0 set (members-up ls up t) e a (record {
+        above = q .1 .from;
         is = sym (o .agrees a (omega (arith, q .1 .from))) ∙ q .1 .is;
         gap = λ x h h′. sym (o .agrees x (omega arith)) ∙ q .1 .gap x h h′;
       }))
       (record { same = refl; floors = refl; ok = sought-ok s o e rs (suc a) fe (omega (arith, q .1 .from)) (omega (arith, q .1 .small)) (q .0) })
 
-  seek-joined : (s : State) → Ok s → (e : ℕ) → s .floor ≤ e → e ≤ top → Joined (drawn (seek ls t 0 e (s .readers))) (draw ls t e)
+  seek-joined : (s : State) → Ok s → (e : ℕ) → s .floor ≤ e → e ≤ top → Joined (drawn (seek ls t 0 e (s .readers))) (draw set e)
   seek-joined s o e fe et = drawn-joined s o e fe et (seek ls t 0 e (s .readers)) (seek-is ls up t 0 e (s .readers) et (omega (arith, o .fits)))
 
   told-joined : (s : State) → Ok s → (d : ℕ) → d < top → s .floor ≤ d → (r : Checked) → Told (λ b. b) 0 (0 + size t) (residual ls t 0) d (s .readers .places) r
-      → Joined (told d r) (cond (leb (s .floor) d && member ls t d) Yes No, max (s .floor) d)
+      → Joined (told d r) (cond (leb (s .floor) d && among d set) Yes No, max (s .floor) d)
   unfolding told
   told-joined s o d dt fd (says b rs) q =
-      let is : leb (s .floor) d && member ls t d ≡ b = cc (le-leb (s .floor) d fd, q .1, o .agrees d fd) in
+      let is : leb (s .floor) d && among d set ≡ b = cc (le-leb (s .floor) d fd, q .1, o .agrees d fd) in
       record {
         same = rw is;
         floors = omega arith;
         ok = record { fits = omega (arith, o .fits, q .0 .long); low = omega arith; agrees = λ x h. q .0 .above x h ∙ o .agrees x (omega arith) };
       }
 
-  step-joined : (s : State) → Ok s → (c : Call) → Small c → Joined (step ls t s c) (reply ls t (s .floor) c)
+  step-joined : (s : State) → Ok s → (c : Call) → Small c → Joined (step ls t s c) (reply set (s .floor) c)
   unfolding step reply
   step-joined s o next h = seek-joined s o (s .floor) (omega arith) (o .low)
   step-joined s o (at-or-past d) h = seek-joined s o (max (s .floor) d) (omega arith) (omega (arith, o .low))
@@ -111,7 +116,7 @@ module _ (ls : List (List ℕ)) (up : (k : ℕ) → Up 0 (getD ls k [])) (t : Tr
   step-joined s o (check d) h = go (ltb d (s .floor)) refl
     where
       go : (b : Bool) → ltb d (s .floor) ≡ b
-          → Joined (elim b [ true ↦ (No, s) | false ↦ told d (check-node ls t 0 d (s .readers)) ]) (cond (leb (s .floor) d && member ls t d) Yes No, max (s .floor) d)
+          → Joined (elim b [ true ↦ (No, s) | false ↦ told d (check-node ls t 0 d (s .readers)) ]) (cond (leb (s .floor) d && among d set) Yes No, max (s .floor) d)
       go true q = record { same = rw (lt-leb (s .floor) d (ltb-true d (s .floor) q)); floors = omega (arith, ltb-true d (s .floor) q); ok = o }
       go false q = told-joined s o d h (ltb-false d (s .floor) q) (check-node ls t 0 d (s .readers)) (check-is ls up t 0 d (s .readers) (omega arith) (omega (arith, o .fits)))
   step-joined s o other h = record { same = refl; floors = refl; ok = o }
@@ -122,27 +127,27 @@ module _ (ls : List (List ℕ)) (up : (k : ℕ) → Up 0 (getD ls k [])) (t : Tr
     ok : Ok (a .1)
 
   joined-cons : (a : Reply × State) (b : Reply × ℕ) → Joined a b → (cs : List Call)
-      → All-joined (steps ls t (a .1) cs) (machine ls t (a .1 .floor) cs)
-      → All-joined (a .0 ∷ steps ls t (a .1) cs .0, steps ls t (a .1) cs .1) (b .0 ∷ machine ls t (b .1) cs .0, machine ls t (b .1) cs .1)
+      → All-joined (steps ls t (a .1) cs) (machine set (a .1 .floor) cs)
+      → All-joined (a .0 ∷ steps ls t (a .1) cs .0, steps ls t (a .1) cs .1) (b .0 ∷ machine set (b .1) cs .0, machine set (b .1) cs .1)
   joined-cons a b j cs r = record { same = cc (j .same, j .floors, r .same); floors = cc (j .floors, r .floors); ok = r .ok }
 
-  all-joined : (cs : List Call) → All-small cs → (s : State) → Ok s → All-joined (steps ls t s cs) (machine ls t (s .floor) cs)
+  all-joined : (cs : List Call) → All-small cs → (s : State) → Ok s → All-joined (steps ls t s cs) (machine set (s .floor) cs)
   unfolding steps machine
   all-joined [] h s o = record { same = refl; floors = refl; ok = o }
   all-joined (c ∷ cs) h s o =
       let j = step-joined s o c (h .0) in
-      joined-cons (step ls t s c) (reply ls t (s .floor) c) j cs (all-joined cs (h .1) (step ls t s c .1) (j .ok))
+      joined-cons (step ls t s c) (reply set (s .floor) c) j cs (all-joined cs (h .1) (step ls t s c .1) (j .ok))
 
-  from-begin : (b : ℕ) → b ≤ top → size t ≤ 48 → (cs : List Call) → All-small cs → All-joined (steps ls t (begin b) cs) (machine ls t b cs)
+  from-begin : (b : Start) → Low b → size t ≤ 48 → (cs : List Call) → All-small cs → All-joined (steps ls t (begin b) cs) (machine set (b .bookmark) cs)
   unfolding begin
-  from-begin b bt st cs h = all-joined cs h (begin b) (record { fits = st; low = bt; agrees = λ x q. start ls untouched none-moved x t 0 })
+  from-begin b bt st cs h = all-joined cs h (begin b) (record { fits = st; low = bt; agrees = λ x q. start ls untouched none-moved x t 0 ∙ sym (members-are ls t x) })
 
   -- the join: a run's replies and bookmark are the plain machine's
-  pub join : (b : ℕ) → b ≤ top → size t ≤ 48 → (cs : List Call) → All-small cs → (run ls t b cs .replies, run ls t b cs .bookmark) ≡ machine ls t b cs
+  pub join : (b : Start) → Low b → size t ≤ 48 → (cs : List Call) → All-small cs → (run ls t b cs .replies, run ls t b cs .last .bookmark) ≡ machine set (b .bookmark) cs
   unfolding run
   join b bt st cs h = let r = from-begin b bt st cs h in λ k. (r .same k, r .floors k)
 
-  -- and that bookmark is one again
-  pub bookmark-low : (b : ℕ) → b ≤ top → size t ≤ 48 → (cs : List Call) → All-small cs → run ls t b cs .bookmark ≤ top
+  -- and where it ends a run can begin again
+  pub last-low : (b : Start) → Low b → size t ≤ 48 → (cs : List Call) → All-small cs → Low (run ls t b cs .last)
   unfolding run
-  bookmark-low b bt st cs h = from-begin b bt st cs h .ok .low
+  last-low b bt st cs h = from-begin b bt st cs h .ok .low

@@ -10,9 +10,9 @@ use borrow.Author.Tests.{le-leb, lt-ltb, le-ltb, leb-true}
 use lib.ListN.{length, getD, take, drop, length-append, length-take, length-drop}
 use lib.Seq.{take-at, drop-at}
 use Rattle.model.specs.Outcome.{refused, accepted}
-use Rattle.model.specs.Lists.{Numbers, ascending, all-ascending, part, lists-from, count-holds, ends-hold, lists-of, or-empty, span-of, part-of}
+use Rattle.model.specs.Lists.{Numbers, ascending, all-ascending, part, lists-from, count-holds, ends-hold, Lent, lend, lists-of, or-empty, span-of, part-of}
 use Rattle.model.specs.Sets.{all-numbers}
-use Rattle.model.specs.Calls.{ends-from}
+use Rattle.model.specs.Calls.{ends-from, laid-out}
 use Rattle.model.proofs.Order.{and-true, Up}
 use Rattle.model.proofs.Denoted.{up-ascending}
 use Rattle.model.proofs.Accepted.{numbers-part, ascending-up, lists-accepted}
@@ -75,13 +75,13 @@ lists-length numbers start [] = refl
 lists-length numbers start (stop ∷ ends) = ap suc (lists-length numbers stop ends)
 
 -- lists that a delivery can hold, laid one after the other, are accepted as those lists, whatever stands behind them
-pub laid-over : (ls : List (List ℕ)) (rest : List ℕ) → count-holds (length ls) ≡ true → Storable ls → lists-of (all-numbers ls ++ rest) (ends-from 0 ls) ≡ accepted ls
+pub laid-over : (ls : List (List ℕ)) (rest : List ℕ) → count-holds (length ls) ≡ true → Storable ls → lists-of (lend (all-numbers ls ++ rest) (ends-from 0 ls)) ≡ accepted ls
 unfolding lists-of
 laid-over ls rest c s =
     rw (ends-length 0 ls, c, laid-ends (length (all-numbers ls ++ rest)) 0 ls s (omega (arith, length-append (all-numbers ls) rest)), laid-from [] ls rest, laid-rise ls s)
 
-pub laid : (ls : List (List ℕ)) → count-holds (length ls) ≡ true → Storable ls → lists-of (all-numbers ls) (ends-from 0 ls) ≡ accepted ls
-laid ls c s = ap (λ (r : List ℕ). lists-of r (ends-from 0 ls)) (sym (append-nil (all-numbers ls))) ∙ laid-over ls [] c s
+pub laid : (ls : List (List ℕ)) → count-holds (length ls) ≡ true → Storable ls → lists-of (laid-out ls) ≡ accepted ls
+laid ls c s = ap (λ (r : List ℕ). lists-of (lend r (ends-from 0 ls))) (sym (append-nil (all-numbers ls))) ∙ laid-over ls [] c s
 
 -- and accepted lists are such lists
 lists-storable : (numbers : List ℕ) (start : ℕ) (ends : List ℕ) → Numbers numbers → ends-hold (length numbers) start ends ≡ true → all-ascending (lists-from numbers start ends) ≡ true → Storable (lists-from numbers start ends)
@@ -97,10 +97,10 @@ lists-storable numbers start (stop ∷ ends) n h r =
       lists-storable numbers stop ends n (c .1) (up .1),
     )
 
-pub storable-accepted : (numbers ends : List ℕ) (ls : List (List ℕ)) → Numbers numbers → lists-of numbers ends ≡ accepted ls → Storable ls × (count-holds (length ls) ≡ true)
-storable-accepted numbers ends ls n e =
-    let a = lists-accepted numbers ends ls e in
-    rw (← a .are) (lists-storable numbers 0 ends n (a .hold) (a .rise), ap count-holds (lists-length numbers 0 ends) ∙ a .count)
+pub storable-accepted : (l : Lent) (ls : List (List ℕ)) → Numbers (l .numbers) → lists-of l ≡ accepted ls → Storable ls × (count-holds (length ls) ≡ true)
+storable-accepted l ls n e =
+    let a = lists-accepted l ls e in
+    rw (← a .are) (lists-storable (l .numbers) 0 (l .ends) n (a .hold) (a .rise), ap count-holds (lists-length (l .numbers) 0 (l .ends)) ∙ a .count)
 
 -- ---- the part of list k
 
@@ -120,18 +120,18 @@ starts numbers start (stop ∷ ends) (suc k) h lt =
     starts numbers stop ends k (c .1) (omega arith)
 
 -- list k itself, of accepted lists that have it
-pub part-is : (numbers ends : List ℕ) (ls : List (List ℕ)) (k : ℕ) → lists-of numbers ends ≡ accepted ls → k < length ls → part-of numbers ends k ≡ getD ls k []
+pub part-is : (l : Lent) (ls : List (List ℕ)) (k : ℕ) → lists-of l ≡ accepted ls → k < length ls → part-of l k ≡ getD ls k []
 unfolding part-of span-of or-empty
-part-is numbers ends ls k e lt =
-    let a = lists-accepted numbers ends ls e in
-    let n : length ls ≡ length ends = ap length (sym (a .are)) ∙ lists-length numbers 0 ends in
-    rw (e, lt-ltb k (length ls) lt) (ap (λ (m : List (List ℕ)). take (length (getD m k [])) (drop (getD (0 ∷ ends) k 0) numbers)) (sym (a .are)) ∙ starts numbers 0 ends k (a .hold) (omega arith) ∙ ap (λ (m : List (List ℕ)). getD m k []) (a .are))
+part-is l ls k e lt =
+    let a = lists-accepted l ls e in
+    let n : length ls ≡ length (l .ends) = ap length (sym (a .are)) ∙ lists-length (l .numbers) 0 (l .ends) in
+    rw (e, lt-ltb k (length ls) lt) (ap (λ (m : List (List ℕ)). take (length (getD m k [])) (drop (getD (0 ∷ l .ends) k 0) (l .numbers))) (sym (a .are)) ∙ starts (l .numbers) 0 (l .ends) k (a .hold) (omega arith) ∙ ap (λ (m : List (List ℕ)). getD m k []) (a .are))
 
 -- the empty part at the start, where no such list is there or a test refuses the lists
-pub part-missing : (numbers ends : List ℕ) (ls : List (List ℕ)) (k : ℕ) → lists-of numbers ends ≡ accepted ls → length ls ≤ k → span-of numbers ends k ≡ record { start = 0; size = 0 }
+pub part-missing : (l : Lent) (ls : List (List ℕ)) (k : ℕ) → lists-of l ≡ accepted ls → length ls ≤ k → span-of l k ≡ record { start = 0; size = 0 }
 unfolding span-of or-empty
-part-missing numbers ends ls k e le = rw (e, le-ltb k (length ls) le)
+part-missing l ls k e le = rw (e, le-ltb k (length ls) le)
 
-pub part-refused : (numbers ends : List ℕ) (k n : ℕ) → lists-of numbers ends ≡ refused n → span-of numbers ends k ≡ record { start = 0; size = 0 }
+pub part-refused : (l : Lent) (k n : ℕ) → lists-of l ≡ refused n → span-of l k ≡ record { start = 0; size = 0 }
 unfolding span-of or-empty
-part-refused numbers ends k n e = rw e
+part-refused l k n e = rw e

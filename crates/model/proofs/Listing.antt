@@ -11,14 +11,15 @@ use lib.Seq.{take-all}
 use Rattle.model.specs.declared.Reply.the-variants.{Member, Finished}
 use Rattle.model.specs.Outcome.{accepted}
 use Rattle.model.specs.Expression.{Tree}
-use Rattle.model.specs.Sets.{member, all-numbers, members-from}
-use Rattle.model.specs.Run.{run, Source, source-of}
+use Rattle.model.specs.Sets.{member, members}
+use Rattle.model.specs.Run.{starting, run, Source, source-of}
 use Rattle.model.specs.Forms.{read-packed}
 use Rattle.model.specs.Delivery.{read-delivery}
-use Rattle.model.specs.Calls.{ends-from}
+use Rattle.model.specs.Calls.{laid-out}
 use Rattle.model.specs.Program.{halves, Listing, listing-of, listing}
 use Rattle.model.specs.Demands.{nexts, Listed}
 use Rattle.model.proofs.Accepted.{accepted-same, bound, required}
+use Rattle.model.proofs.Denoted.{from-zero}
 use Rattle.model.proofs.Deliveries.{Delivered, delivery-holds}
 use Rattle.model.proofs.Laid.{ends-length, laid-numbers, laid}
 use Rattle.model.proofs.DemandThree.{drawn}
@@ -32,27 +33,28 @@ module _ (input : List ℕ) (stored : List ℕ × List ℕ) (is-stored : halves 
   source = record { lists = ls; tree = t }
 
   -- the delivered lists, laid one after the other, are accepted with the expression
-  is-source : source-of (all-numbers ls) (ends-from 0 ls) (stored .0) ≡ accepted source
+  is-source : source-of (laid-out ls) (stored .0) ≡ accepted source
   unfolding source-of source
   is-source = rw (laid ls (holds .count) (holds .storable), ends-length 0 ls, is-tree)
 
   listed : Listed input (listing-of ls t)
   unfolding source drawn listing-of
   listed =
-      let d = drawn (all-numbers ls) (ends-from 0 ls) (stored .0) (laid-numbers ls (holds .storable)) source is-source 0 (omega arith) in
-      let m : ℕ = suc (length (members-from ls t 0)) in
-      let more : m - length (members-from ls t 0) ≡ 1 = omega arith in
+      let d = drawn (laid-out ls) (stored .0) (laid-numbers ls (holds .storable)) source is-source (starting 0) (omega arith) in
+      let all : d .members ≡ members ls t = from-zero (members ls t) in
+      let m : ℕ = suc (length (members ls t)) in
+      let more : m - length (members ls t) ≡ 1 = omega arith in
       record {
         stored = stored;
         is-stored = is-stored;
         source = source;
         is-lists = is-lists;
         is-tree = is-tree;
-        ascend = d .ascend;
-        every = λ x. d .every x ∙ ap (λ (b : Bool). b && member ls t x) (le-leb 0 x (omega arith));
+        ascend = rw all at (d .ascend);
+        every = λ x. rw all at (d .every x) ∙ ap (λ (b : Bool). b && member ls t x) (le-leb 0 x (omega arith));
         result = d .result m;
-        ran = d .ran m (nexts (members-from ls t 0)) (length-replicate m 0);
-        replies = d .replies m ∙ ap₂ (λ (k : List ℕ) (n : ℕ). map Member k ++ replicate n Finished) (take-all m (members-from ls t 0) (omega arith)) more;
+        ran = d .ran m (nexts (members ls t)) (length-replicate m 0);
+        replies = rw all at (d .replies m) ∙ ap₂ (λ (k : List ℕ) (n : ℕ). map Member k ++ replicate n Finished) (take-all m (members ls t) (omega arith)) more;
         moved = refl;
       }
 

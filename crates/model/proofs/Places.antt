@@ -1,10 +1,10 @@
--- Places and moves: no place passes its list's end, places are 0 at operators and unused nodes, moves are the sum of the
--- places, and so at most the summed lengths of the lists at the leaves.
+-- Places and moves: no place passes its list's end, places are 0 at operators and unused nodes, moves are within the sum of
+-- the places, and so at most the summed lengths of the lists at the leaves; and they are that sum.
 --
--- One property of the readers, Counted, is kept by every reader's step and so by every operator's. Assumes nothing.
+-- What every reader's step keeps every operator's does. Assumes nothing.
 use mathlib.Core.Path.{_≡_, refl, ap, _∙_}
 use mathlib.Core.Bool.{Bool, true, false}
-use mathlib.Core.List.{List, [], _∷_, _++_}
+use mathlib.Core.List.{List, [], _∷_, _++_, map}
 use Prim.Native.Nat.{ℕ, zero, suc, _+_, _≤_, _<_, max}
 use native.Mathlib.Omega.{arith}
 use native.Mathlib.Decide.{ℕ-discrete}
@@ -15,8 +15,8 @@ use Rattle.model.specs.declared.Reply.{Reply}
 use Rattle.model.specs.declared.Reply.the-variants.{No}
 use Rattle.model.specs.Expression.{Tree, leaf, difference, union, intersection, Members, one, more, size, sizes}
 use Rattle.model.specs.Machine.{Call, next, at-or-past, past, check, other}
-use Rattle.model.specs.Steps.{Readers, Found, end, at, Seek, Checked, says, Check, passed, answer, read, fuel, differ, unite, follow, intersect, seek, seek-union, seek-intersection, seek-rest, is-at, turned, on-yes, on-no, check-node, check-union, check-intersection}
-use Rattle.model.specs.Run.{State, drawn, told, step, steps, begin}
+use Rattle.model.specs.Steps.{Readers, Found, end, at, Seek, Checked, says, Check, passed, moves-to, answer, read, fuel, differ, unite, follow, intersect, seek, seek-union, seek-intersection, seek-rest, is-at, turned, on-yes, on-no, check-node, check-union, check-intersection}
+use Rattle.model.specs.Run.{State, drawn, told, step, steps, Start, begin}
 use Rattle.model.specs.Demands.{lengths, lengths-all, sum}
 use Rattle.model.proofs.Order.{none-moved}
 use Rattle.model.proofs.Seek.{on-case, test-case}
@@ -173,13 +173,7 @@ module _ (P : Readers → Type 0) where
       steps-keep [] s p = p
       steps-keep (c ∷ cs) s p = steps-keep cs (step ls t s c .1) (step-keeps s c p)
 
--- ---- the bounds
-
--- no place passes its bound, and moves are the sum of the places
-pub record Counted (bounds : List ℕ) (rs : Readers) : Type 0 where
-  pub long : length (rs .places) ≡ 48
-  pub within : (k : ℕ) → getD (rs .places) k 0 ≤ getD bounds k 0
-  pub counted : rs .moves ≡ sum (rs .places)
+-- ---- one reader's step
 
 pub sum-set : (ps : List ℕ) (i n : ℕ) → i < length ps → sum (set ps i (getD ps i 0 + n)) ≡ sum ps + n
 unfolding sum
@@ -202,10 +196,40 @@ passed-le (x ∷ xs) e = go (ltb x e) (passed-le xs e)
     go true h = omega arith
     go false h = omega arith
 
--- a reader of a list as long as its bound keeps it
-read-keeps : (bounds l : List ℕ) (i : ℕ) → i < 48 → getD bounds i 0 ≡ length l → Keeps (Counted bounds) (read l i)
+-- each place that is passed counts as one move; no more than these are counted, and none where none is passed
+moves-all : (left : List ℕ) (e : ℕ) → moves-to left e ≡ passed left e
+unfolding moves-to
+moves-all left e = refl
+
+pub moves-le : (left : List ℕ) (e : ℕ) → moves-to left e ≤ passed left e
+moves-le left e = omega (arith, moves-all left e)
+
+-- what a step of the node i's reader keeps is what the place and the moves that it comes to keep
+read-kept : (P : Readers → Type 0) (l : List ℕ) (i e : ℕ) (rs : Readers)
+    → P (record { places = set (rs .places) i (getD (rs .places) i 0 + passed (drop (getD (rs .places) i 0) l) e); moves = rs .moves + moves-to (drop (getD (rs .places) i 0) l) e })
+    → P (readers-of (read l i e rs))
 unfolding read answer
-read-keeps bounds l i h b e rs c = go (drop (place + n) l)
+read-kept P l i e rs h = go (drop (getD (rs .places) i 0 + passed (drop (getD (rs .places) i 0) l) e) l)
+  where
+    go : (r : List ℕ) → P (readers-of (answer r (record { places = set (rs .places) i (getD (rs .places) i 0 + passed (drop (getD (rs .places) i 0) l) e); moves = rs .moves + moves-to (drop (getD (rs .places) i 0) l) e })))
+    go [] = h
+    go (y ∷ ys) = h
+
+-- ---- the bounds
+
+-- no place passes its bound, and the moves are within the sum of the places
+pub record Counted (bounds : List ℕ) (rs : Readers) : Type 0 where
+  pub long : length (rs .places) ≡ 48
+  pub within : (k : ℕ) → getD (rs .places) k 0 ≤ getD bounds k 0
+  pub covered : rs .moves ≤ sum (rs .places)
+
+-- a reader of a list as long as its bound keeps it
+counted-keeps : (bounds l : List ℕ) (i : ℕ) → i < 48 → getD bounds i 0 ≡ length l → Keeps (Counted bounds) (read l i)
+counted-keeps bounds l i h b e rs c = read-kept (Counted bounds) l i e rs (record {
+  long = length-set (rs .places) i (place + n) ∙ c .long;
+  within = within;
+  covered = omega (arith, sum-set (rs .places) i n inside, c .covered, moves-le (drop place l) e);
+})
   where
     place : ℕ
     place = getD (rs .places) i 0
@@ -213,28 +237,28 @@ read-keeps bounds l i h b e rs c = go (drop (place + n) l)
     n : ℕ
     n = passed (drop place l) e
 
-    moved : Readers
-    moved = record { places = set (rs .places) i (place + n); moves = rs .moves + n }
-
     inside : i < length (rs .places)
     inside = omega (arith, c .long)
 
     small : place + n ≤ getD bounds i 0
     small = omega (arith, passed-le (drop place l) e, length-drop place l, c .within i)
 
-    within : (k : ℕ) → getD (moved .places) k 0 ≤ getD bounds k 0
+    within : (k : ℕ) → getD (set (rs .places) i (place + n)) k 0 ≤ getD bounds k 0
     within k = to (ℕ-discrete k i)
       where
         to : Dec (k ≡ i) → getD (set (rs .places) i (place + n)) k 0 ≤ getD bounds k 0
         to (yes q) = rw (q, getD-set-same (rs .places) i (place + n) 0 inside) small
         to (no q) = rw (getD-set-other (rs .places) i k (place + n) 0 q) (c .within k)
 
-    counted : Counted bounds moved
-    counted = record { long = length-set (rs .places) i (place + n) ∙ c .long; within = within; counted = omega (arith, sum-set (rs .places) i n inside, c .counted) }
+-- "Moves are the sum of the places"
+abbrev Summed : Readers → Type 0
+Summed rs = (length (rs .places) ≡ 48) × (rs .moves ≡ sum (rs .places))
 
-    go : (r : List ℕ) → Counted bounds (readers-of (answer r moved))
-    go [] = counted
-    go (y ∷ ys) = counted
+summed-keeps : (l : List ℕ) (i : ℕ) → i < 48 → Keeps Summed (read l i)
+summed-keeps l i h e rs c =
+    let place : ℕ = getD (rs .places) i 0 in
+    let n : ℕ = passed (drop place l) e in
+    read-kept Summed l i e rs (length-set (rs .places) i (place + n) ∙ c .0, omega (arith, sum-set (rs .places) i n (omega (arith, c .0)), c .1, moves-all (drop place l) e))
 
 -- ---- each leaf's bound in the row of lengths
 
@@ -252,44 +276,67 @@ stands-right : (bounds l r : List ℕ) (i n : ℕ) → length l ≡ n → Stands
 stands-right bounds l r i n e s k h =
     ap (λ (m : ℕ). getD bounds m 0) (omega arith) ∙ s (length l + k) (omega (arith, length-append l r)) ∙ getD-append-add l r k 0
 
-module _ (ls : List (List ℕ)) where
+module _ (ns : List ℕ) where
   mutual
     unfolding lengths size
 
-    lengths-size : (t : Tree) → length (lengths ls t) ≡ size t
+    lengths-size : (t : Tree) → length (lengths ns t) ≡ size t
     lengths-size (leaf k) = refl
-    lengths-size (difference s t) = omega (arith, length-append (lengths ls s) (lengths ls t), lengths-size s, lengths-size t)
+    lengths-size (difference s t) = omega (arith, length-append (lengths ns s) (lengths ns t), lengths-size s, lengths-size t)
     lengths-size (union ts) = omega (arith, all-size ts)
     lengths-size (intersection ts) = omega (arith, all-size ts)
 
-    all-size : (ts : Members) → length (lengths-all ls ts) ≡ sizes ts
+    all-size : (ts : Members) → length (lengths-all ns ts) ≡ sizes ts
     all-size (one t) = lengths-size t
-    all-size (more t ts) = omega (arith, length-append (lengths ls t) (lengths-all ls ts), lengths-size t, all-size ts)
+    all-size (more t ts) = omega (arith, length-append (lengths ns t) (lengths-all ns ts), lengths-size t, all-size ts)
 
-  module _ (bounds : List ℕ) where
-    mutual
-      unfolding lengths size
+list-length : (ls : List (List ℕ)) (k : ℕ) → getD (map length ls) k 0 ≡ length (getD ls k [])
+list-length [] k = refl
+list-length (l ∷ ls) zero = refl
+list-length (l ∷ ls) (suc k) = list-length ls k
 
-      leaves-keep : (t : Tree) (i : ℕ) → i + size t ≤ 48 → Stands bounds i (lengths ls t) → Leaves-keep (Counted bounds) ls t i
-      leaves-keep (leaf k) i h s = read-keeps bounds (getD ls k []) i (omega arith) (ap (λ (n : ℕ). getD bounds n 0) (omega arith) ∙ s 0 (omega arith))
-      leaves-keep (difference a b) i h s =
-          let s′ : Stands bounds (1 + i) (lengths ls a ++ lengths ls b) = stands-tail bounds (lengths ls a ++ lengths ls b) i 0 s in (
-            leaves-keep a (1 + i) (omega arith) (stands-left bounds (lengths ls a) (lengths ls b) (1 + i) s′),
-            leaves-keep b (1 + i + size a) (omega arith) (stands-right bounds (lengths ls a) (lengths ls b) (1 + i) (size a) (lengths-size a) s′),
-          )
-      leaves-keep (union ts) i h s = all-keep ts (1 + i) (omega arith) (stands-tail bounds (lengths-all ls ts) i 0 s)
-      leaves-keep (intersection ts) i h s = all-keep ts (1 + i) (omega arith) (stands-tail bounds (lengths-all ls ts) i 0 s)
+-- of what every reader within the 48 places keeps whose list is as long as its bound
+module _ (ls : List (List ℕ)) (P : Readers → Type 0) (bounds : List ℕ) (keeps : (l : List ℕ) (i : ℕ) → i < 48 → getD bounds i 0 ≡ length l → Keeps P (read l i)) where
+  abbrev ns : List ℕ
+  ns = map length ls
 
-      all-keep : (ts : Members) (i : ℕ) → i + sizes ts ≤ 48 → Stands bounds i (lengths-all ls ts) → All-keep (Counted bounds) ls ts i
-      all-keep (one t) i h s = leaves-keep t i h s
-      all-keep (more t ts) i h s = (
-        leaves-keep t i (omega arith) (stands-left bounds (lengths ls t) (lengths-all ls ts) i s),
-        all-keep ts (i + size t) (omega arith) (stands-right bounds (lengths ls t) (lengths-all ls ts) i (size t) (lengths-size t) s),
-      )
+  mutual
+    unfolding lengths size
 
-  -- after any list of calls
-  pub counted-run : (t : Tree) → size t ≤ 48 → (b : ℕ) (cs : List Call) → Counted (lengths ls t) (steps ls t (begin b) cs .1 .readers)
+    leaves-keep : (t : Tree) (i : ℕ) → i + size t ≤ 48 → Stands bounds i (lengths ns t) → Leaves-keep P ls t i
+    leaves-keep (leaf k) i h s = keeps (getD ls k []) i (omega arith) (ap (λ (n : ℕ). getD bounds n 0) (omega arith) ∙ s 0 (omega arith) ∙ list-length ls k)
+    leaves-keep (difference a b) i h s =
+        let s′ : Stands bounds (1 + i) (lengths ns a ++ lengths ns b) = stands-tail bounds (lengths ns a ++ lengths ns b) i 0 s in (
+          leaves-keep a (1 + i) (omega arith) (stands-left bounds (lengths ns a) (lengths ns b) (1 + i) s′),
+          leaves-keep b (1 + i + size a) (omega arith) (stands-right bounds (lengths ns a) (lengths ns b) (1 + i) (size a) (lengths-size ns a) s′),
+        )
+    leaves-keep (union ts) i h s = all-keep ts (1 + i) (omega arith) (stands-tail bounds (lengths-all ns ts) i 0 s)
+    leaves-keep (intersection ts) i h s = all-keep ts (1 + i) (omega arith) (stands-tail bounds (lengths-all ns ts) i 0 s)
+
+    all-keep : (ts : Members) (i : ℕ) → i + sizes ts ≤ 48 → Stands bounds i (lengths-all ns ts) → All-keep P ls ts i
+    all-keep (one t) i h s = leaves-keep t i h s
+    all-keep (more t ts) i h s = (
+      leaves-keep t i (omega arith) (stands-left bounds (lengths ns t) (lengths-all ns ts) i s),
+      all-keep ts (i + size t) (omega arith) (stands-right bounds (lengths ns t) (lengths-all ns ts) i (size t) (lengths-size ns t) s),
+    )
+
+-- after any list of calls
+module _ (ls : List (List ℕ)) (t : Tree) (h : size t ≤ 48) (start : Start) (cs : List Call) where
+  abbrev bounds : List ℕ
+  bounds = lengths (map length ls) t
+
+  abbrev after : Readers
+  after = steps ls t (begin start) cs .1 .readers
+
+  whole : Stands bounds 0 bounds
+  whole k q = ap (λ (n : ℕ). getD bounds n 0) (omega arith)
+
+  pub counted-run : Counted bounds after
+  unfolding begin
+  counted-run = steps-keep (Counted bounds) ls t (leaves-keep ls (Counted bounds) bounds (counted-keeps bounds) t 0 (omega arith) whole) cs (begin start)
+      (record { long = refl; within = λ k. omega (arith, none-moved k); covered = omega arith })
+
+  -- what demand 3 says of them beside
+  pub summed-run : after .moves ≡ sum (after .places)
   unfolding begin sum
-  counted-run t h b cs =
-      steps-keep (Counted (lengths ls t)) ls t (leaves-keep (lengths ls t) t 0 (omega arith) (λ k q. ap (λ (n : ℕ). getD (lengths ls t) n 0) (omega arith))) cs (begin b)
-      (record { long = refl; within = λ k. omega (arith, none-moved k); counted = refl })
+  summed-run = steps-keep Summed ls t (leaves-keep ls Summed bounds (λ l i q b. summed-keeps l i q) t 0 (omega arith) whole) cs (begin start) (refl, refl) .1

@@ -2,7 +2,6 @@
 use mathlib.Core.Path.{_≡_, refl, ap}
 use mathlib.Core.Bool.{Bool, true, false, _&&_, cond}
 use mathlib.Core.List.{List, [], _∷_}
-use mathlib.Core.Option.{Option, none, some}
 use Prim.Native.Nat.{ℕ, zero, suc, _-_, _≤_, _<_, max}
 use lib.Dec.{ltb, leb}
 use borrow.Author.Tests.{lt-ltb}
@@ -11,11 +10,11 @@ use Rattle.model.specs.declared.Reply.{Reply}
 use Rattle.model.specs.declared.Reply.the-variants.{Member, Finished, Yes, No, Unknown}
 use Rattle.model.specs.Lists.{top}
 use Rattle.model.specs.Expression.{Tree, size}
-use Rattle.model.specs.Sets.{member, least-from}
+use Rattle.model.specs.Sets.{among, members}
 use Rattle.model.specs.Machine.{Call, next, at-or-past, past, check, other, draw, reply, machine, encode}
-use Rattle.model.specs.Run.{run}
+use Rattle.model.specs.Run.{Start, Low, run}
 use Rattle.model.proofs.Order.{Up}
-use Rattle.model.proofs.Denoted.{Least-from, least-from-is, member-in, all-small}
+use Rattle.model.proofs.Denoted.{members-up}
 use Rattle.model.proofs.Join.{All-small, join}
 
 abbrev pub Number : Reply → Type 0
@@ -29,38 +28,43 @@ abbrev pub All-numbers : List Reply → Type 0
 All-numbers [] = Unit {0}
 All-numbers (r ∷ rs) = Number r × All-numbers rs
 
-module _ (ls : List (List ℕ)) (up : (k : ℕ) → Up 0 (getD ls k [])) (t : Tree) where
-  draw-number : (floor : ℕ) → Number (draw ls t floor .0)
+-- a set of numbers
+module _ (set : List ℕ) (lo : ℕ) (up : Up lo set) where
+  draw-number : (floor : ℕ) → Number (draw set floor .0)
   unfolding draw
-  draw-number floor = go (least-from ls t floor) (least-from-is ls t floor)
+  draw-number floor = go lo set up
     where
-      reply-of : Option ℕ → Reply × ℕ
-      reply-of r = elim r [ none ↦ (Finished, top) | some x ↦ (Member x, suc x) ]
+      turn : ℕ → Reply × ℕ → Bool → Reply × ℕ
+      turn x rest b = elim b [ true ↦ rest | false ↦ (Member x, suc x) ]
 
-      go : (r : Option ℕ) → Least-from ls t floor r → Number (reply-of r .0)
-      go none l = tt
-      go (some a) l = all-small ls up a (member-in ls t a (l .is))
+      test : (x : ℕ) → x < top → (rest : Reply × ℕ) → Number (rest .0) → (b : Bool) → Number (turn x rest b .0)
+      test x h rest n true = n
+      test x h rest n false = h
+
+      go : (lo : ℕ) (set : List ℕ) → Up lo set → Number (draw set floor .0)
+      go lo [] u = tt
+      go lo (x ∷ set) u = test x (u .1) (draw set floor) (go (suc x) set (u .2)) (ltb x floor)
 
   check-number : (b : Bool) → Number (cond b Yes No)
   check-number true = tt
   check-number false = tt
 
-  reply-number : (floor : ℕ) (c : Call) → Number (reply ls t floor c .0)
+  reply-number : (floor : ℕ) (c : Call) → Number (reply set floor c .0)
   unfolding reply
   reply-number floor next = draw-number floor
   reply-number floor (at-or-past d) = draw-number (max floor d)
   reply-number floor (past d) = draw-number (max floor (suc d))
-  reply-number floor (check d) = check-number (leb floor d && member ls t d)
+  reply-number floor (check d) = check-number (leb floor d && among d set)
   reply-number floor other = tt
 
-  machine-numbers : (cs : List Call) (floor : ℕ) → All-numbers (machine ls t floor cs .0)
+  machine-numbers : (cs : List Call) (floor : ℕ) → All-numbers (machine set floor cs .0)
   unfolding machine
   machine-numbers [] floor = tt
-  machine-numbers (c ∷ cs) floor = (reply-number floor c, machine-numbers cs (reply ls t floor c .1))
+  machine-numbers (c ∷ cs) floor = (reply-number floor c, machine-numbers cs (reply set floor c .1))
 
-  -- every member that a run replies is a number
-  pub replies-numbers : (b : ℕ) → b ≤ top → size t ≤ 48 → (cs : List Call) → All-small cs → All-numbers (run ls t b cs .replies)
-  replies-numbers b bt st cs h = rw (ap (λ p. p .0) (join ls up t b bt st cs h)) (machine-numbers cs b)
+-- every member that a run replies is a number
+pub replies-numbers : (ls : List (List ℕ)) → ((k : ℕ) → Up 0 (getD ls k [])) → (t : Tree) (b : Start) → Low b → size t ≤ 48 → (cs : List Call) → All-small cs → All-numbers (run ls t b cs .replies)
+replies-numbers ls up t b bt st cs h = rw (ap (λ p. p .0) (join ls up t b bt st cs h)) (machine-numbers (members ls t) 0 (members-up ls up t) cs (b .bookmark))
 
 -- the reply that a 64-bit number stands for
 kind : ℕ → Reply

@@ -10,14 +10,14 @@ use lib.ListN.{length, getD, take, drop}
 use lib.Seq.{take-append-seam}
 use borrow.Author.Tests.{leb-true, le-leb}
 use Rattle.model.specs.Outcome.{Outcome, accepted, _>>=_, _>>_, require, Sent, Success, over, sent}
-use Rattle.model.specs.Lists.{Numbers, count-holds, lists-of}
+use Rattle.model.specs.Lists.{Numbers, count-holds, Lent, lend, lists-of}
 use Rattle.model.specs.Expression.{Tree, size}
 use Rattle.model.specs.Sets.{all-numbers}
 use Rattle.model.specs.Fields.{Bytes}
 use Rattle.model.specs.Forms.{row, packed, read-row, read-packed}
 use Rattle.model.specs.Delivery.{delivery, read-delivery}
 use Rattle.model.specs.Calls.{ends-from, unpack-expression, pack-expression, decode-delivery, encode-delivery}
-use Rattle.model.specs.Demands.{wrote, lists-read, wrote-all, Second-demand}
+use Rattle.model.specs.Demands.{wrote, left-lent, wrote-all, Second-demand}
 use Rattle.model.proofs.Order.{and-true}
 use Rattle.model.proofs.Accepted.{bound, required, accepted-same, row-reads, packed-reads}
 use Rattle.model.proofs.Trees.{row-written, row-same, packed-written, packed-same}
@@ -125,45 +125,45 @@ read-by bytes numbers ends z =
 pub lists-there : (ends : List ℕ) (ls : List (List ℕ)) → take (length ls) (ends-from 0 ls ++ drop (length (ends-from 0 ls)) ends) ≡ ends-from 0 ls
 lists-there ends ls = ap (λ (n : ℕ). take n (ends-from 0 ls ++ drop (length (ends-from 0 ls)) ends)) (sym (ends-length 0 ls)) ∙ take-append-seam (ends-from 0 ls) (drop (length (ends-from 0 ls)) ends)
 
-write-sends : (numbers ends lent : List ℕ) (ls : List (List ℕ)) → lists-of numbers ends ≡ accepted ls → length (delivery ls) ≤ length lent → encode-delivery numbers ends lent ≡ wrote-all (delivery ls) lent
+write-sends : (l : Lent) (lent : List ℕ) (ls : List (List ℕ)) → lists-of l ≡ accepted ls → length (delivery ls) ≤ length lent → encode-delivery l lent ≡ wrote-all (delivery ls) lent
 unfolding encode-delivery sent over
-write-sends numbers ends lent ls e l = rw (e, le-leb (length (delivery ls)) (length lent) l)
+write-sends l lent ls e room = rw (e, le-leb (length (delivery ls)) (length lent) room)
 
-write-room : (numbers ends lent : List ℕ) (ls : List (List ℕ)) → lists-of numbers ends ≡ accepted ls → encode-delivery numbers ends lent .number ≡ 0 → length (delivery ls) ≤ length lent
+write-room : (l : Lent) (lent : List ℕ) (ls : List (List ℕ)) → lists-of l ≡ accepted ls → encode-delivery l lent .number ≡ 0 → length (delivery ls) ≤ length lent
 unfolding encode-delivery
-write-room numbers ends lent ls e z =
-    let all-told = told-then (lists-of numbers ends) _ (lists-told numbers ends) (λ l. told-test 6 (leb (length (delivery l)) (length lent)) _ (omega arith) told-right) in
+write-room l lent ls e z =
+    let all-told = told-then (lists-of l) _ (lists-told l) (λ ls. told-test 6 (leb (length (delivery ls)) (length lent)) _ (omega arith) told-right) in
     let s = succeeded 1 (lent ∷ []) _ all-told z in
-    let b = bound (lists-of numbers ends) _ (s .got) (s .is) in
+    let b = bound (lists-of l) _ (s .got) (s .is) in
     let same : b .got ≡ ls = accepted-same (sym (b .first) ∙ e) in
     let c = required 6 (leb (length (delivery (b .got))) (length lent)) _ (s .got) (b .rest) in
     subst (λ (l : List (List ℕ)). length (delivery l) ≤ length lent) same (leb-true (length (delivery (b .got))) (length lent) (c .0))
 
-lists-back : (numbers ends bytes lent-numbers lent-ends : List ℕ) → Numbers numbers → (ls : List (List ℕ)) → lists-of numbers ends ≡ accepted ls
-    → encode-delivery numbers ends bytes .number ≡ 0 → length (all-numbers ls) ≤ length lent-numbers → length ls ≤ length lent-ends
-    → let s = decode-delivery (wrote (encode-delivery numbers ends bytes)) lent-numbers lent-ends in (s .number ≡ 0) × (lists-read s ≡ accepted ls)
-lists-back numbers ends bytes lent-numbers lent-ends small ls e z room-numbers room-ends =
-    let held = storable-accepted numbers ends ls small e in
-    let there : wrote (encode-delivery numbers ends bytes) ≡ delivery ls =
-    ap wrote (write-sends numbers ends bytes ls e (write-room numbers ends bytes ls e z)) ∙ front (delivery ls) bytes in
+lists-back : (l : Lent) (bytes lent-numbers lent-ends : List ℕ) → Numbers (l .numbers) → (ls : List (List ℕ)) → lists-of l ≡ accepted ls
+    → encode-delivery l bytes .number ≡ 0 → length (all-numbers ls) ≤ length lent-numbers → length ls ≤ length lent-ends
+    → let s = decode-delivery (wrote (encode-delivery l bytes)) lent-numbers lent-ends in (s .number ≡ 0) × (lists-of (left-lent s) ≡ accepted ls)
+lists-back l bytes lent-numbers lent-ends small ls e z room-numbers room-ends =
+    let held = storable-accepted l ls small e in
+    let there : wrote (encode-delivery l bytes) ≡ delivery ls =
+    ap wrote (write-sends l bytes ls e (write-room l bytes ls e z)) ∙ front (delivery ls) bytes in
     let sends = ap (λ (b : List ℕ). decode-delivery b lent-numbers lent-ends) there
     ∙ read-sends (delivery ls) lent-numbers lent-ends ls (delivery-written (length lent-numbers) (length lent-ends) ls (held .1) (held .0) room-numbers room-ends) in (
       ap (λ (s : Sent). s .number) sends,
-      ap lists-read sends ∙ ap (lists-of (all-numbers ls ++ drop (length (all-numbers ls)) lent-numbers)) (lists-there lent-ends ls)
+      ap (λ (s : Sent). lists-of (left-lent s)) sends ∙ ap (λ (stops : List ℕ). lists-of (lend (all-numbers ls ++ drop (length (all-numbers ls)) lent-numbers) stops)) (lists-there lent-ends ls)
           ∙ laid-over ls (drop (length (all-numbers ls)) lent-numbers) (held .1) (held .0),
     )
 
 delivery-back : (bytes lent-numbers lent-ends lent : List ℕ) → Bytes bytes → decode-delivery bytes lent-numbers lent-ends .number ≡ 0 → length bytes ≤ length lent
-    → let s = decode-delivery bytes lent-numbers lent-ends in encode-delivery (getD (s .rows) 0 []) (take (getD (s .parts) 0 0) (getD (s .rows) 1 [])) lent ≡ wrote-all bytes lent
+    → encode-delivery (left-lent (decode-delivery bytes lent-numbers lent-ends)) lent ≡ wrote-all bytes lent
 delivery-back bytes lent-numbers lent-ends lent small z room =
     let r = read-by bytes lent-numbers lent-ends z in
     let ls : List (List ℕ) = r .got in
     let same : delivery ls ≡ bytes = delivery-same (length lent-numbers) (length lent-ends) bytes ls small (r .is) in
     let held = delivery-holds (length lent-numbers) (length lent-ends) bytes ls (r .is) in
     let rest : List ℕ = drop (length (all-numbers ls)) lent-numbers in
-    ap (λ (s : Sent). encode-delivery (getD (s .rows) 0 []) (take (getD (s .parts) 0 0) (getD (s .rows) 1 [])) lent) (read-sends bytes lent-numbers lent-ends ls (r .is))
-    ∙ ap (λ (e : List ℕ). encode-delivery (all-numbers ls ++ rest) e lent) (lists-there lent-ends ls)
-    ∙ write-sends (all-numbers ls ++ rest) (ends-from 0 ls) lent ls (laid-over ls rest (held .count) (held .storable)) (rw same room)
+    ap (λ (s : Sent). encode-delivery (left-lent s) lent) (read-sends bytes lent-numbers lent-ends ls (r .is))
+    ∙ ap (λ (e : List ℕ). encode-delivery (lend (all-numbers ls ++ rest) e) lent) (lists-there lent-ends ls)
+    ∙ write-sends (lend (all-numbers ls ++ rest) (ends-from 0 ls)) lent ls (laid-over ls rest (held .count) (held .storable)) (rw same room)
     ∙ ap (λ (b : List ℕ). wrote-all b lent) same
 
 pub second-demand : Second-demand

@@ -12,7 +12,7 @@ use lib.Seq.{drop-nil, getD-set-same, getD-set-other, drop-drop}
 use Rattle.model.specs.Lists.{top}
 use Rattle.model.specs.Expression.{Tree, leaf, difference, union, intersection, Members, one, more, size, sizes}
 use Rattle.model.specs.Sets.{among}
-use Rattle.model.specs.Steps.{Readers, Found, end, at, Seek, on, passed, answer, read, fuel, differ, unite, follow, intersect, seek, seek-union, seek-intersection, seek-rest}
+use Rattle.model.specs.Steps.{Readers, Found, end, at, Seek, on, passed, moves-to, answer, read, fuel, differ, unite, follow, intersect, seek, seek-union, seek-intersection, seek-rest}
 use Rattle.model.proofs.Order.{or-right, and-right, split, min-case, Up, up-drop, up-none}
 use Rattle.model.proofs.Residual.{Set, Local, After, None, Least, Sought, Seeks, Passed, Passes, sought-passed, sought-wide, passed-wide, again, left-of, residual, residual-some, residual-all, residual-local, some-local, all-local}
 
@@ -320,7 +320,7 @@ read-seek l i u e rs et il = go (drop p l) refl
     }
 
     moved : Readers
-    moved = record { places = set ps i p; moves = rs .moves + passed (drop p₀ l) e }
+    moved = record { places = set ps i p; moves = rs .moves + moves-to (drop p₀ l) e }
 
     go : (r : List ℕ) → drop p l ≡ r → Sought i (suc i) (left-of l i) e ps (answer r moved)
     go [] q = (after, λ x h. sym (above x h) ∙ ap (among x) q)

@@ -1,20 +1,20 @@
 -- What every call sends back has one shape, accepted or refused: as many parts as its result has, and every lent row as
 -- long as it was. Assumes nothing.
 use mathlib.Core.Path.{_≡_, refl, ap, ap₂, _∙_, subst}
-use mathlib.Core.List.{List, [], _∷_, _++_, map}
+use mathlib.Core.List.{List, [], _∷_, map}
 use Prim.Native.Nat.{ℕ, suc, _≤_}
 use native.Mathlib.Omega.{arith}
 use lib.Dec.{leb}
 use borrow.Author.Tests.{leb-true}
 use lib.ListN.{length, drop, length-append, length-drop, length-map, length-replicate}
 use Rattle.model.specs.Outcome.{Outcome, refused, accepted, Sent, Success, over, sent}
-use Rattle.model.specs.Lists.{count-holds, lists-of}
+use Rattle.model.specs.Lists.{count-holds, Lent, lists-of}
 use Rattle.model.specs.Expression.{Tree, leaf, difference, union, intersection, Members, one, more, size, sizes}
 use Rattle.model.specs.Machine.{Call, calls, encode}
-use Rattle.model.specs.Run.{State, step, steps, begin, Result, run, run-of}
+use Rattle.model.specs.Run.{State, step, steps, Start, starting, begin, Result, run, run-of}
 use Rattle.model.specs.Forms.{nodes, nodes-all, row-byte, row, packed, read-row, read-packed}
 use Rattle.model.specs.Delivery.{delivery, read-delivery}
-use Rattle.model.specs.Calls.{unpack-expression, pack-expression, decode-delivery, encode-delivery, run-call}
+use Rattle.model.specs.Calls.{unpack-expression, pack-expression, decode-delivery, encode-delivery, run-parts, run-size, run-call}
 use Rattle.model.specs.Program.{listing, listed, list-members}
 use Rattle.model.proofs.Accepted.{accepted-same, bound, required, packed-reads}
 use Rattle.model.proofs.Places.{counted-run}
@@ -76,9 +76,9 @@ calls-long [] ds h = refl
 calls-long (c ∷ cs) [] h = absurd (omega arith)
 calls-long (c ∷ cs) (d ∷ ds) h = ap suc (calls-long cs ds (omega arith))
 
-pub replies-long : (ls : List (List ℕ)) (t : Tree) (bookmark : ℕ) (codes ds : List ℕ) → length codes ≡ length ds → length (run ls t bookmark (calls codes ds) .replies) ≡ length codes
+pub replies-long : (ls : List (List ℕ)) (t : Tree) (start : Start) (codes ds : List ℕ) → length codes ≡ length ds → length (run ls t start (calls codes ds) .replies) ≡ length codes
 unfolding run
-replies-long ls t bookmark codes ds h = steps-long ls t (begin bookmark) (calls codes ds) ∙ calls-long codes ds h
+replies-long ls t start codes ds h = steps-long ls t (begin start) (calls codes ds) ∙ calls-long codes ds h
 
 -- ---- the calls
 
@@ -105,33 +105,36 @@ decode-shape bytes lent-numbers lent-ends = sent-shape 2 (lent-numbers ∷ lent-
     let d = delivery-holds (length lent-numbers) (length lent-ends) bytes (a .got) (a .first) in
     subst (Fits 2 (lent-numbers ∷ lent-ends ∷ [])) (accepted-same (a .rest)) (refl, (d .numbers, (omega (arith, d .ends, ends-length 0 (a .got)), tt))))
 
-pub encode-shape : (numbers ends lent : List ℕ) → Shape 1 (lent ∷ []) (encode-delivery numbers ends lent)
+pub encode-shape : (l : Lent) (lent : List ℕ) → Shape 1 (lent ∷ []) (encode-delivery l lent)
 unfolding encode-delivery
-encode-shape numbers ends lent = sent-shape 1 (lent ∷ []) _ (λ s e.
-    let a = bound (lists-of numbers ends) _ s e in
+encode-shape l lent = sent-shape 1 (lent ∷ []) _ (λ s e.
+    let a = bound (lists-of l) _ s e in
     let b = required 6 (leb (length (delivery (a .got))) (length lent)) _ s (a .rest) in
     subst (Fits 1 (lent ∷ [])) (accepted-same (b .1)) (refl, (leb-true (length (delivery (a .got))) (length lent) (b .0), tt)))
 
-run-fits : (numbers ends expression : List ℕ) (bookmark : ℕ) (codes ds lent : List ℕ) (got : Result) → Accepted-run numbers ends expression bookmark codes ds (length lent) got
-    → Fits 50 (lent ∷ []) (record { parts = got .moves ∷ (got .places ++ (got .bookmark ∷ [])); written = map encode (got .replies) ∷ [] })
+-- the parts of a run's result are as many, whatever they are
+parts-long : (moves : ℕ) (places : List ℕ) (last : Start) → length places ≡ 48 → length (run-parts moves places last) ≡ run-size
+parts-long moves places last h = omega (arith, length-append places (last .bookmark ∷ []), h)
+
+run-fits : (l : Lent) (expression : List ℕ) (start : Start) (codes ds lent : List ℕ) (got : Result) → Accepted-run l expression start codes ds (length lent) got
+    → Fits run-size (lent ∷ []) (record { parts = run-parts (got .moves) (got .places) (got .last); written = map encode (got .replies) ∷ [] })
 unfolding run
-run-fits numbers ends expression bookmark codes ds lent got r =
+run-fits l expression start codes ds lent got r =
     let ls = r .source .lists in
     let t = r .source .tree in
-    let c = counted-run ls t (packed-reads (length ends) expression t (source-accepted numbers ends expression (r .source) (r .is-source) .1) .nodes) bookmark (calls codes ds) in
-    let places = steps ls t (begin bookmark) (calls codes ds) .1 .readers .places in
-    let last = steps ls t (begin bookmark) (calls codes ds) .1 .floor in
-    subst (λ (g : Result). Fits 50 (lent ∷ []) (record { parts = g .moves ∷ (g .places ++ (g .bookmark ∷ [])); written = map encode (g .replies) ∷ [] })) (r .are) (
-      omega (arith, length-append places (last ∷ []), c .long),
-      (omega (arith, length-map (steps ls t (begin bookmark) (calls codes ds) .0) encode, replies-long ls t bookmark codes ds (r .paired), r .fits), tt),
+    let last = steps ls t (begin start) (calls codes ds) .1 in
+    let c = counted-run ls t (packed-reads (length (l .ends)) expression t (source-accepted l expression (r .source) (r .is-source) .1) .nodes) start (calls codes ds) in
+    subst (λ (g : Result). Fits run-size (lent ∷ []) (record { parts = run-parts (g .moves) (g .places) (g .last); written = map encode (g .replies) ∷ [] })) (r .are) (
+      parts-long (last .readers .moves) (last .readers .places) (starting (last .floor)) (c .long),
+      (omega (arith, length-map (steps ls t (begin start) (calls codes ds) .0) encode, replies-long ls t start codes ds (r .paired), r .fits), tt),
     )
 
-pub run-shape : (numbers ends expression : List ℕ) (bookmark : ℕ) (codes ds lent : List ℕ) → Shape 50 (lent ∷ []) (run-call numbers ends expression bookmark codes ds lent)
+pub run-shape : (l : Lent) (expression : List ℕ) (start : Start) (codes ds lent : List ℕ) → Shape run-size (lent ∷ []) (run-call l expression start codes ds lent)
 unfolding run-call
-run-shape numbers ends expression bookmark codes ds lent = sent-shape 50 (lent ∷ []) _ (λ s e.
-    let a = bound (run-of numbers ends expression bookmark codes ds (length lent)) _ s e in
-    subst (Fits 50 (lent ∷ [])) (accepted-same (a .rest))
-    (run-fits numbers ends expression bookmark codes ds lent (a .got) (run-accepted numbers ends expression bookmark codes ds (length lent) (a .got) (a .first))))
+run-shape l expression start codes ds lent = sent-shape run-size (lent ∷ []) _ (λ s e.
+    let a = bound (run-of l expression start codes ds (length lent)) _ s e in
+    subst (Fits run-size (lent ∷ [])) (accepted-same (a .rest))
+    (run-fits l expression start codes ds lent (a .got) (run-accepted l expression start codes ds (length lent) (a .got) (a .first))))
 
 pub listing-shape : (input lent : List ℕ) → Shape 2 (lent ∷ []) (list-members input lent)
 unfolding list-members listed

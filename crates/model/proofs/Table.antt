@@ -5,7 +5,7 @@ use mathlib.Core.Bool.{true, false}
 use mathlib.Core.List.{List, [], _∷_, _++_, map}
 use Prim.Native.Nat.{ℕ, zero, suc, _-_}
 use native.Mathlib.Omega.{arith}
-use Rattle.model.specs.Lists.{Numbers}
+use Rattle.model.specs.Lists.{Numbers, lend}
 use lib.ListN.{replicate, length}
 use Rattle.model.specs.declared.Reply.{Reply}
 use Rattle.model.specs.declared.Reply.the-variants.{Member, Finished, Yes, No, Unknown}
@@ -16,13 +16,13 @@ use Rattle.model.specs.Sets
 use Rattle.model.specs.Machine.{Call, next, check, call, calls, draw, reply, machine, encode}
 use Rattle.model.specs.Steps
 use Rattle.model.specs.Run
-use Rattle.model.specs.Run.{Result, run, run-of}
+use Rattle.model.specs.Run.{starting, Result, run, run-of}
 use Rattle.model.specs.Fields
 use Rattle.model.specs.Forms
 use Rattle.model.specs.Forms.{row, packed, read-row, read-packed}
 use Rattle.model.specs.Delivery
 use Rattle.model.specs.Delivery.{delivery, read-delivery}
-use Rattle.model.specs.Calls.{unpack-expression, pack-expression, decode-delivery, encode-delivery, run-call, ends-from}
+use Rattle.model.specs.Calls.{unpack-expression, pack-expression, decode-delivery, encode-delivery, run-size, run-call, ends-from}
 use Rattle.model.specs.Program.{halves, listing-of, listing, listed, list-members}
 
 -- opens the definitions: under `unfolding computes` each side of a table computes
@@ -31,11 +31,11 @@ unfolding sent over Lists.span-of Lists.or-empty Lists.count-holds Lists.lists-o
 opens-lists = tt
 
 opens-machine : Unit {0}
-unfolding Sets.least-from Sets.least Sets.lower Sets.all-numbers Sets.member Sets.among Sets.members-from Sets.select Sets.insert machine reply draw encode calls call
+unfolding Sets.all-numbers Sets.member Sets.among Sets.members Sets.select Sets.insert machine reply draw encode calls call
 opens-machine = tt
 
 opens-steps : Unit {0}
-unfolding Steps.seek Steps.check-node Steps.read Steps.answer Steps.passed Steps.fuel Steps.differ Steps.unite Steps.follow Steps.intersect Steps.is-at Steps.turned Steps.on-yes Steps.on-no run Run.begin Run.steps Run.step Run.drawn Run.told run-of Run.source-of
+unfolding Steps.seek Steps.check-node Steps.read Steps.answer Steps.passed Steps.moves-to Steps.fuel Steps.differ Steps.unite Steps.follow Steps.intersect Steps.is-at Steps.turned Steps.on-yes Steps.on-no run Run.begin Run.steps Run.step Run.drawn Run.told run-of Run.source-of
 opens-steps = tt
 
 opens-forms : Unit {0}
@@ -192,12 +192,12 @@ runs = P1 ∷ P2 ∷ P2-from-6 ∷ P3 ∷ P4 ∷ P4-finished ∷ P5 ∷ P6 ∷ P
 
 -- what the plain machine and the steps give for a row, and what the row says they give
 abbrev pub computed : Row → (List Reply × ℕ) × Result
-computed r = (machine (r .lists) (r .tree) (r .bookmark) (r .calls), run (r .lists) (r .tree) (r .bookmark) (r .calls))
+computed r = (machine (Sets.members (r .lists) (r .tree)) (r .bookmark) (r .calls), run (r .lists) (r .tree) (starting (r .bookmark)) (r .calls))
 
 abbrev pub stated : Row → (List Reply × ℕ) × Result
 stated r = (
   (r .replies, r .last),
-  record { replies = r .replies; moves = r .moves; places = r .places ++ replicate (48 - length (r .places)) 0; bookmark = r .last },
+  record { replies = r .replies; moves = r .moves; places = r .places ++ replicate (48 - length (r .places)) 0; last = starting (r .last) },
 )
 
 -- P8, read and written: bytes, and the tree that they are over two lists
@@ -300,10 +300,10 @@ refused-inputs =
     decode-delivery (0x00 ∷ []) lent lent ∷
     decode-delivery (0x04 ∷ 0x00 ∷ 0x0B ∷ 0xFF ∷ 0xFF ∷ 0xFF ∷ 0xFC ∷ 0x00 ∷ []) lent lent ∷
     decode-delivery (0x04 ∷ 0x00 ∷ 0x08 ∷ 0x00 ∷ 0x00 ∷ 0x00 ∷ 0x08 ∷ 0x20 ∷ []) lent lent ∷
-    encode-delivery (2 ∷ 3 ∷ []) (2 ∷ 1 ∷ []) lent ∷
-    encode-delivery (5 ∷ 5 ∷ []) (2 ∷ []) lent ∷
-    run-call (5 ∷ []) (1 ∷ []) (0x00 ∷ []) 4294967297 (0 ∷ []) (0 ∷ []) lent ∷
-    run-call (5 ∷ []) (1 ∷ []) (0x00 ∷ []) 0 (0 ∷ []) [] lent ∷
+    encode-delivery (lend (2 ∷ 3 ∷ []) (2 ∷ 1 ∷ [])) lent ∷
+    encode-delivery (lend (5 ∷ 5 ∷ []) (2 ∷ [])) lent ∷
+    run-call (lend (5 ∷ []) (1 ∷ [])) (0x00 ∷ []) (starting 4294967297) (0 ∷ []) (0 ∷ []) lent ∷
+    run-call (lend (5 ∷ []) (1 ∷ [])) (0x00 ∷ []) (starting 0) (0 ∷ []) [] lent ∷
     pack-expression (32 ∷ []) 1 lent ∷ pack-expression (201 ∷ replicate 9 0) 1 lent ∷ []
   where
     lent : List ℕ
@@ -314,7 +314,7 @@ refusal n parts rows = record { number = n; parts = replicate parts 0; rows = re
 
 pub refusals : refused-inputs ≡
     refusal 1 1 1 ∷ refusal 2 1 1 ∷ refusal 3 1 1 ∷ refusal 4 1 1 ∷ refusal 5 1 1 ∷ refusal 6 2 2 ∷ refusal 7 2 2 ∷ refusal 8 2 2 ∷ refusal 9 2 2 ∷
-    refusal 10 1 1 ∷ refusal 11 1 1 ∷ refusal 12 50 1 ∷ refusal 13 50 1 ∷ refusal 14 1 1 ∷ refusal 14 1 1 ∷ []
+    refusal 10 1 1 ∷ refusal 11 1 1 ∷ refusal 12 run-size 1 ∷ refusal 13 run-size 1 ∷ refusal 14 1 1 ∷ refusal 14 1 1 ∷ []
 unfolding computes
 refusals = refl
 
@@ -324,8 +324,8 @@ pub successes :
     unpack-expression (0x40 ∷ 0x01 ∷ []) 2 (7 ∷ 7 ∷ 7 ∷ 7 ∷ []) ∷
     pack-expression (64 ∷ 0 ∷ 1 ∷ []) 2 (7 ∷ 7 ∷ 7 ∷ []) ∷
     decode-delivery (0x04 ∷ 0x00 ∷ 0x0C ∷ 0x00 ∷ 0x00 ∷ 0x00 ∷ 0x08 ∷ 0x08 ∷ []) (7 ∷ 7 ∷ 7 ∷ 7 ∷ []) (7 ∷ 7 ∷ []) ∷
-    encode-delivery (2 ∷ 3 ∷ 5 ∷ 7 ∷ []) (3 ∷ []) (replicate 9 7) ∷
-    run-call (2 ∷ 3 ∷ 5 ∷ []) (3 ∷ []) (0x00 ∷ []) 0 (3 ∷ 4 ∷ 0 ∷ 2 ∷ 3 ∷ 1 ∷ []) (2 ∷ 9 ∷ 9 ∷ 2 ∷ 2 ∷ 6 ∷ []) (replicate 7 7) ∷ []
+    encode-delivery (lend (2 ∷ 3 ∷ 5 ∷ 7 ∷ []) (3 ∷ [])) (replicate 9 7) ∷
+    run-call (lend (2 ∷ 3 ∷ 5 ∷ []) (3 ∷ [])) (0x00 ∷ []) (starting 0) (3 ∷ 4 ∷ 0 ∷ 2 ∷ 3 ∷ 1 ∷ []) (2 ∷ 9 ∷ 9 ∷ 2 ∷ 2 ∷ 6 ∷ []) (replicate 7 7) ∷ []
     ≡
     record { number = 0; parts = 3 ∷ []; rows = (64 ∷ 0 ∷ 1 ∷ 7 ∷ []) ∷ [] } ∷
     record { number = 0; parts = 2 ∷ []; rows = (0x40 ∷ 0x01 ∷ 7 ∷ []) ∷ [] } ∷
@@ -352,7 +352,7 @@ pub record Edges : Type 0 where
   unpack-33 : unpack-expression (0x00 ∷ []) 33 (7 ∷ []) ≡ refuses 7 1 ((7 ∷ []) ∷ [])
   unpack-31 : unpack-expression (0x3E ∷ []) 32 (7 ∷ []) ≡ gives (1 ∷ []) ((31 ∷ []) ∷ [])
   pack-7 : pack-expression (32 ∷ []) 0 (7 ∷ []) ≡ refuses 7 1 ((7 ∷ []) ∷ [])
-  encode-7 : encode-delivery [] [] [] ≡ refuses 7 1 ([] ∷ [])
+  encode-7 : encode-delivery (lend [] []) [] ≡ refuses 7 1 ([] ∷ [])
   -- an intersection of lists 0 and 1, into rows that just fit; 6 comes last, one element short
   unpack-fits : unpack-expression (0xC8 ∷ 0x00 ∷ 0x20 ∷ []) 2 (7 ∷ 7 ∷ 7 ∷ []) ≡ gives (3 ∷ []) ((194 ∷ 0 ∷ 1 ∷ []) ∷ [])
   unpack-short : unpack-expression (0xC8 ∷ 0x00 ∷ 0x20 ∷ []) 2 (7 ∷ 7 ∷ []) ≡ refuses 6 1 ((7 ∷ 7 ∷ []) ∷ [])
@@ -360,25 +360,26 @@ pub record Edges : Type 0 where
   pack-fits : pack-expression (194 ∷ 0 ∷ 1 ∷ []) 2 (7 ∷ 7 ∷ 7 ∷ []) ≡ gives (3 ∷ []) ((0xC8 ∷ 0x00 ∷ 0x20 ∷ []) ∷ [])
   pack-bytes : pack-expression (64 ∷ 0 ∷ 1 ∷ []) 2 (7 ∷ 7 ∷ []) ≡ gives (2 ∷ []) ((0x40 ∷ 0x01 ∷ []) ∷ [])
   pack-short : pack-expression (64 ∷ 0 ∷ 1 ∷ []) 2 (7 ∷ []) ≡ refuses 6 1 ((7 ∷ []) ∷ [])
-  encode-fits : encode-delivery (2 ∷ 3 ∷ 5 ∷ []) (3 ∷ []) (replicate 8 7) ≡ gives (8 ∷ []) ((0x04 ∷ 0x00 ∷ 0x0C ∷ 0x00 ∷ 0x00 ∷ 0x00 ∷ 0x08 ∷ 0x08 ∷ []) ∷ [])
-  encode-short : encode-delivery (2 ∷ 3 ∷ 5 ∷ []) (3 ∷ []) (replicate 7 7) ≡ refuses 6 1 (replicate 7 7 ∷ [])
+  encode-fits : encode-delivery (lend (2 ∷ 3 ∷ 5 ∷ []) (3 ∷ [])) (replicate 8 7) ≡ gives (8 ∷ []) ((0x04 ∷ 0x00 ∷ 0x0C ∷ 0x00 ∷ 0x00 ∷ 0x00 ∷ 0x08 ∷ 0x08 ∷ []) ∷ [])
+  encode-short : encode-delivery (lend (2 ∷ 3 ∷ 5 ∷ []) (3 ∷ [])) (replicate 7 7) ≡ refuses 6 1 (replicate 7 7 ∷ [])
   -- a row that ends early, and a node left over
   row-early : pack-expression (64 ∷ 0 ∷ []) 1 (7 ∷ []) ≡ refuses 1 1 ((7 ∷ []) ∷ [])
   row-over : pack-expression (0 ∷ 0 ∷ []) 1 (7 ∷ []) ≡ refuses 5 1 ((7 ∷ []) ∷ [])
   -- an empty list is fine, an end may not pass the row, and a list may have 65,535 numbers
-  empty-lists : encode-delivery [] (0 ∷ 0 ∷ []) (replicate 5 7) ≡ gives (5 ∷ []) ((0x08 ∷ 0x00 ∷ 0x00 ∷ 0x00 ∷ 0x00 ∷ []) ∷ [])
-  end-passes : encode-delivery (2 ∷ 3 ∷ []) (3 ∷ []) [] ≡ refuses 10 1 ([] ∷ [])
+  empty-lists : encode-delivery (lend [] (0 ∷ 0 ∷ [])) (replicate 5 7) ≡ gives (5 ∷ []) ((0x08 ∷ 0x00 ∷ 0x00 ∷ 0x00 ∷ 0x00 ∷ []) ∷ [])
+  end-passes : encode-delivery (lend (2 ∷ 3 ∷ []) (3 ∷ [])) [] ≡ refuses 10 1 ([] ∷ [])
   long-lists : Lists.ends-hold 131070 0 (65535 ∷ 131070 ∷ []) ≡ true
   too-long : Lists.ends-hold 65536 0 (65536 ∷ []) ≡ false
   -- two lists read, each with its end
   two-ends : decode-delivery (0x08 ∷ 0x00 ∷ 0x04 ∷ 0x00 ∷ 0x00 ∷ 0x00 ∷ 0x14 ∷ 0x00 ∷ 0x04 ∷ 0x00 ∷ 0x00 ∷ 0x00 ∷ 0x1C ∷ []) (9 ∷ 9 ∷ []) (9 ∷ 9 ∷ []) ≡ gives (2 ∷ 2 ∷ []) ((5 ∷ 7 ∷ []) ∷ (1 ∷ 2 ∷ []) ∷ [])
-  -- the reply row one short; code 1 draws D itself
-  replies-short : run-call (5 ∷ []) (1 ∷ []) (0x00 ∷ []) 0 (0 ∷ []) (0 ∷ []) [] ≡ refuses 13 50 ([] ∷ [])
-  at-d : run-call (5 ∷ 6 ∷ []) (2 ∷ []) (0x00 ∷ []) 0 (1 ∷ []) (5 ∷ []) (7 ∷ []) ≡ gives (0 ∷ (replicate 48 0 ++ (6 ∷ []))) ((5 ∷ []) ∷ [])
+  -- a run's 50 other parts; the reply row one short; code 1 draws D itself
+  fifty : run-size ≡ 50
+  replies-short : run-call (lend (5 ∷ []) (1 ∷ [])) (0x00 ∷ []) (starting 0) (0 ∷ []) (0 ∷ []) [] ≡ refuses 13 run-size ([] ∷ [])
+  at-d : run-call (lend (5 ∷ 6 ∷ []) (2 ∷ [])) (0x00 ∷ []) (starting 0) (1 ∷ []) (5 ∷ []) (7 ∷ []) ≡ gives (0 ∷ (replicate 48 0 ++ (6 ∷ []))) ((5 ∷ []) ∷ [])
   -- the part of a list: its place and its length; the empty part at the start where there is none, or 11 would apply
-  part-1 : Lists.span-of (2 ∷ 3 ∷ 5 ∷ 7 ∷ []) (1 ∷ 3 ∷ []) 1 ≡ record { start = 1; size = 2 }
-  part-2 : Lists.span-of (2 ∷ 3 ∷ 5 ∷ 7 ∷ []) (1 ∷ 3 ∷ []) 2 ≡ record { start = 0; size = 0 }
-  part-11 : Lists.span-of (2 ∷ 3 ∷ 3 ∷ []) (1 ∷ 3 ∷ []) 1 ≡ record { start = 0; size = 0 }
+  part-1 : Lists.span-of (lend (2 ∷ 3 ∷ 5 ∷ 7 ∷ []) (1 ∷ 3 ∷ [])) 1 ≡ record { start = 1; size = 2 }
+  part-2 : Lists.span-of (lend (2 ∷ 3 ∷ 5 ∷ 7 ∷ []) (1 ∷ 3 ∷ [])) 2 ≡ record { start = 0; size = 0 }
+  part-11 : Lists.span-of (lend (2 ∷ 3 ∷ 3 ∷ []) (1 ∷ 3 ∷ [])) 1 ≡ record { start = 0; size = 0 }
   -- the program: no length byte, an expression that is short
   no-length : listing [] ≡ refused 1
   short-expression : listing (0x05 ∷ 0x00 ∷ []) ≡ refused 1
@@ -410,6 +411,7 @@ edges = record {
   long-lists = refl;
   too-long = refl;
   two-ends = refl;
+  fifty = refl;
   replies-short = refl;
   at-d = refl;
   part-1 = refl;
@@ -477,8 +479,8 @@ pub order-deliveries :
     decode-delivery (0x08 ∷ 0x00 ∷ 0x04 ∷ 0x00 ∷ 0x00 ∷ 0x00 ∷ 0x04 ∷ 0x00 ∷ 0x04 ∷ []) (7 ∷ []) sevens ∷
     decode-delivery (0x84 ∷ []) sevens sevens ∷
     decode-delivery (0x04 ∷ 0x00 ∷ 0x01 ∷ []) sevens sevens ∷
-    encode-delivery [] (1 ∷ replicate 32 0) sevens ∷
-    encode-delivery (5 ∷ 5 ∷ []) (2 ∷ 1 ∷ []) sevens ∷ []
+    encode-delivery (lend [] (1 ∷ replicate 32 0)) sevens ∷
+    encode-delivery (lend (5 ∷ 5 ∷ []) (2 ∷ 1 ∷ [])) sevens ∷ []
     ≡
     refuses 8 2 (replicate 3 7 ∷ (7 ∷ []) ∷ []) ∷
     refusal 6 2 2 ∷
@@ -493,14 +495,14 @@ order-deliveries = refl
 -- a run: "lists [..], the packed expression [..], bookmark (12), row lengths (13)"; more numbers than codes; a list number
 -- that is not there; and one empty list, drawn
 pub order-runs :
-    run-call (5 ∷ 5 ∷ []) (2 ∷ []) [] 0 [] [] sevens ∷
-    run-call (5 ∷ []) (1 ∷ []) [] 4294967297 [] [] sevens ∷
-    run-call (5 ∷ []) (1 ∷ []) (0x00 ∷ []) 4294967297 (0 ∷ []) [] sevens ∷
-    run-call (5 ∷ []) (1 ∷ []) (0x00 ∷ []) 0 [] (0 ∷ []) sevens ∷
-    run-call (5 ∷ []) (1 ∷ []) (0x02 ∷ []) 0 [] [] sevens ∷
-    run-call [] (0 ∷ []) (0x00 ∷ []) 0 (0 ∷ []) (0 ∷ []) sevens ∷ []
+    run-call (lend (5 ∷ 5 ∷ []) (2 ∷ [])) [] (starting 0) [] [] sevens ∷
+    run-call (lend (5 ∷ []) (1 ∷ [])) [] (starting 4294967297) [] [] sevens ∷
+    run-call (lend (5 ∷ []) (1 ∷ [])) (0x00 ∷ []) (starting 4294967297) (0 ∷ []) [] sevens ∷
+    run-call (lend (5 ∷ []) (1 ∷ [])) (0x00 ∷ []) (starting 0) [] (0 ∷ []) sevens ∷
+    run-call (lend (5 ∷ []) (1 ∷ [])) (0x02 ∷ []) (starting 0) [] [] sevens ∷
+    run-call (lend [] (0 ∷ [])) (0x00 ∷ []) (starting 0) (0 ∷ []) (0 ∷ []) sevens ∷ []
     ≡
-    refusal 11 50 1 ∷ refusal 1 50 1 ∷ refusal 12 50 1 ∷ refusal 13 50 1 ∷ refusal 4 50 1 ∷
+    refusal 11 run-size 1 ∷ refusal 1 run-size 1 ∷ refusal 12 run-size 1 ∷ refusal 13 run-size 1 ∷ refusal 4 run-size 1 ∷
     record { number = 0; parts = replicate 49 0 ++ (4294967296 ∷ []); rows = (4294967298 ∷ 7 ∷ []) ∷ [] } ∷ []
 unfolding computes
 order-runs = refl

@@ -9,7 +9,7 @@ use lib.ListN.{length}
 use Rattle.model.specs.declared.Node.{Node}
 use Rattle.model.specs.declared.Node.the-variants.{Leaf, Difference, Union, Intersection}
 use Rattle.model.specs.Outcome.{Outcome, refused, accepted, _>>=_, _>>_, require, number-of, Success, sent}
-use Rattle.model.specs.Lists.{top, all-ascending, lists-from, count-holds, ends-hold, lists-of}
+use Rattle.model.specs.Lists.{top, all-ascending, lists-from, count-holds, ends-hold, Lent, lists-of}
 use Rattle.model.specs.Expression.{Tree}
 use Rattle.model.specs.Fields.{bits, take-field, only-fill}
 use Rattle.model.specs.Forms.{node-of, take-byte, take-rest, take-kind, take-node, read-members, operator, read-below, read-tree, read-row, read-packed}
@@ -51,9 +51,9 @@ sent-number parts rows (accepted s) = refl
 pub succeeded : (parts : ℕ) (rows : List (List ℕ)) (o : Outcome Success) → Told o → sent parts rows o .number ≡ 0 → Success-of o
 succeeded parts rows o t e = zero-accepts o t (sent-number parts rows o ∙ e)
 
-pub lists-told : (numbers ends : List ℕ) → Told (lists-of numbers ends)
+pub lists-told : (l : Lent) → Told (lists-of l)
 unfolding lists-of
-lists-told numbers ends = told-test 7 (count-holds (length ends)) _ (omega arith) (told-test 10 (ends-hold (length numbers) 0 ends) _ (omega arith) (told-test 11 (all-ascending (lists-from numbers 0 ends)) _ (omega arith) told-right))
+lists-told l = told-test 7 (count-holds (length (l .ends))) _ (omega arith) (told-test 10 (ends-hold (length (l .numbers)) 0 (l .ends)) _ (omega arith) (told-test 11 (all-ascending (lists-from (l .numbers) 0 (l .ends))) _ (omega arith) told-right))
 
 -- ---- expressions
 

@@ -9,11 +9,11 @@ use Rattle.model.specs.declared.DecodeResult.{DecodeResult}
 use Rattle.model.specs.declared.RunResult.{RunResult}
 use Rattle.model.specs.declared.MembersResult.{MembersResult}
 use Rattle.model.specs.Outcome.{accepted, _>>=_, _>>_, require, Sent, sent}
-use Rattle.model.specs.Lists.{count-holds, lists-of}
+use Rattle.model.specs.Lists.{count-holds, Lent, lend, lists-of}
 use Rattle.model.specs.Expression.{size}
 use Rattle.model.specs.Sets.{all-numbers}
 use Rattle.model.specs.Machine.{encode}
-use Rattle.model.specs.Run.{run-of}
+use Rattle.model.specs.Run.{Start, starting, run-of}
 use Rattle.model.specs.Forms.{row, packed, read-row, read-packed}
 use Rattle.model.specs.Delivery.{delivery, read-delivery}
 
@@ -24,12 +24,15 @@ written r row = record { number = r .number; parts = r .count ∷ []; rows = row
 abbrev pub delivered : DecodeResult → List ℕ → List ℕ → Sent
 delivered r numbers ends = record { number = r .number; parts = r .lists ∷ r .numbers ∷ []; rows = numbers ∷ ends ∷ [] }
 
--- the other parts of a run's result: "the moves, all 48 places and the bookmark"
-abbrev pub run-parts : ℕ → List ℕ → ℕ → List ℕ
-run-parts moves places bookmark = moves ∷ (places ++ (bookmark ∷ []))
+-- the other parts of a run's result: "the moves, all 48 places and the bookmark"; and how many they are
+abbrev pub run-parts : ℕ → List ℕ → Start → List ℕ
+run-parts moves places last = moves ∷ (places ++ (last .bookmark ∷ []))
+
+abbrev pub run-size : ℕ
+run-size = length (run-parts 0 (replicate 48 0) (starting 0))
 
 abbrev pub ran : RunResult → List ℕ → Sent
-ran r row = record { number = r .number; parts = run-parts (r .moves) (r .places) (r .bookmark); rows = row ∷ [] }
+ran r row = record { number = r .number; parts = run-parts (r .moves) (r .places) (starting (r .bookmark)); rows = row ∷ [] }
 
 abbrev pub counted : MembersResult → List ℕ → Sent
 counted r row = record { number = r .number; parts = r .count ∷ r .moves ∷ []; rows = row ∷ [] }
@@ -51,6 +54,10 @@ counted-refused n = record { number = n; count = 0; moves = 0 }
 unfoldable pub ends-from : ℕ → List (List ℕ) → List ℕ
 ends-from start [] = []
 ends-from start (l ∷ ls) = (start + length l) ∷ ends-from (start + length l) ls
+
+-- lists laid one after the other, as they are lent
+abbrev pub laid-out : List (List ℕ) → Lent
+laid-out ls = lend (all-numbers ls) (ends-from 0 ls)
 
 -- packed expression to row form: "Reading checks 7 first"; "After the last: 5, then 6"; the nodes
 unfoldable pub unpack-expression : List ℕ → ℕ → List ℕ → Sent
@@ -75,14 +82,14 @@ decode-delivery bytes lent-numbers lent-ends = sent 2 (lent-numbers ∷ lent-end
   accepted (record { parts = length ls ∷ length (all-numbers ls) ∷ []; written = all-numbers ls ∷ ends-from 0 ls ∷ [] }))
 
 -- a delivery written: "Writing checks 7, 10, 11, 6"; the bytes
-unfoldable pub encode-delivery : List ℕ → List ℕ → List ℕ → Sent
-encode-delivery numbers ends lent = sent 1 (lent ∷ []) (do
-  ls ← lists-of numbers ends
+unfoldable pub encode-delivery : Lent → List ℕ → Sent
+encode-delivery l lent = sent 1 (lent ∷ []) (do
+  ls ← lists-of l
   require 6 (leb (length (delivery ls)) (length lent))
   accepted (record { parts = length (delivery ls) ∷ []; written = delivery ls ∷ [] }))
 
 -- a run: "It writes one reply for each call and nothing behind them"
-unfoldable pub run-call : List ℕ → List ℕ → List ℕ → ℕ → List ℕ → List ℕ → List ℕ → Sent
-run-call numbers ends expression bookmark codes ds lent = sent 50 (lent ∷ []) (do
-  r ← run-of numbers ends expression bookmark codes ds (length lent)
-  accepted (record { parts = run-parts (r .moves) (r .places) (r .bookmark); written = map encode (r .replies) ∷ [] }))
+unfoldable pub run-call : Lent → List ℕ → Start → List ℕ → List ℕ → List ℕ → Sent
+run-call l expression start codes ds lent = sent run-size (lent ∷ []) (do
+  r ← run-of l expression start codes ds (length lent)
+  accepted (record { parts = run-parts (r .moves) (r .places) (r .last); written = map encode (r .replies) ∷ [] }))

@@ -7,40 +7,28 @@ use lib.Dec.{leb}
 use lib.ListN.{length, getD, take, drop, replicate}
 use Rattle.model.specs.declared.Reply.the-variants.{Member, Finished}
 use Rattle.model.specs.Outcome.{Outcome, accepted, Sent}
-use Rattle.model.specs.Lists.{top, Numbers, ascending, lists-of}
+use Rattle.model.specs.Lists.{Numbers, ascending, Lent, lend, lists-of}
 use Rattle.model.specs.Expression.{Tree, leaf, difference, union, intersection, Members, one, more, size, depth, count}
-use Rattle.model.specs.Sets.{among, member, all-numbers}
+use Rattle.model.specs.Sets.{among, member, all-numbers, members}
 use Rattle.model.specs.Machine.{calls, machine, encode}
-use Rattle.model.specs.Run.{Result, run, Source, source-of, run-of}
+use Rattle.model.specs.Run.{Start, starting, Low, Result, run, Source, source-of, run-of}
 use Rattle.model.specs.Fields.{Bytes}
 use Rattle.model.specs.Forms.{read-packed}
 use Rattle.model.specs.Delivery.{read-delivery}
-use Rattle.model.specs.Calls.{ends-from, unpack-expression, pack-expression, decode-delivery, encode-delivery, run-parts, run-call}
+use Rattle.model.specs.Calls.{laid-out, unpack-expression, pack-expression, decode-delivery, encode-delivery, run-parts, run-call}
 use Rattle.model.specs.Program.{halves, Listing}
 
--- the list numbers at the leaves, in expression order: "One list may stand at several leaves"
+-- of lists of these lengths, for each node in expression order that of its list; 0 at an operator
 unfoldable mutual
-  pub leaves : Tree → List ℕ
-  leaves (leaf k) = k ∷ []
-  leaves (difference s t) = leaves s ++ leaves t
-  leaves (union ts) = leaves-all ts
-  leaves (intersection ts) = leaves-all ts
+  pub lengths : List ℕ → Tree → List ℕ
+  lengths ns (leaf k) = getD ns k 0 ∷ []
+  lengths ns (difference s t) = 0 ∷ (lengths ns s ++ lengths ns t)
+  lengths ns (union ts) = 0 ∷ lengths-all ns ts
+  lengths ns (intersection ts) = 0 ∷ lengths-all ns ts
 
-  pub leaves-all : Members → List ℕ
-  leaves-all (one t) = leaves t
-  leaves-all (more t ts) = leaves t ++ leaves-all ts
-
--- of each node in expression order, the length of its list; 0 at an operator
-unfoldable mutual
-  pub lengths : List (List ℕ) → Tree → List ℕ
-  lengths ls (leaf k) = length (getD ls k []) ∷ []
-  lengths ls (difference s t) = 0 ∷ (lengths ls s ++ lengths ls t)
-  lengths ls (union ts) = 0 ∷ lengths-all ls ts
-  lengths ls (intersection ts) = 0 ∷ lengths-all ls ts
-
-  pub lengths-all : List (List ℕ) → Members → List ℕ
-  lengths-all ls (one t) = lengths ls t
-  lengths-all ls (more t ts) = lengths ls t ++ lengths-all ls ts
+  pub lengths-all : List ℕ → Members → List ℕ
+  lengths-all ns (one t) = lengths ns t
+  lengths-all ns (more t ts) = lengths ns t ++ lengths-all ns ts
 
 -- the sum of a row
 unfoldable pub sum : List ℕ → ℕ
@@ -78,8 +66,8 @@ pub record Least-width (m w : ℕ) : Type 0 where
 abbrev pub wrote : Sent → List ℕ
 wrote s = take (getD (s .parts) 0 0) (getD (s .rows) 0 [])
 
-abbrev pub lists-read : Sent → Outcome (List (List ℕ))
-lists-read s = lists-of (getD (s .rows) 0 []) (take (getD (s .parts) 0 0) (getD (s .rows) 1 []))
+abbrev pub left-lent : Sent → Lent
+left-lent s = lend (getD (s .rows) 0 []) (take (getD (s .parts) 0 0) (getD (s .rows) 1 []))
 
 -- a call that has written these elements into its one lent row, and nothing behind them
 abbrev pub wrote-all : List ℕ → List ℕ → Sent
@@ -93,12 +81,12 @@ pub record Second-demand : Type 0 where
   pub packed-written-back : (bytes : List ℕ) (lists : ℕ) (row lent : List ℕ) → Bytes bytes → unpack-expression bytes lists row .number ≡ 0 → length bytes ≤ length lent
       → pack-expression (wrote (unpack-expression bytes lists row)) lists lent ≡ wrote-all bytes lent
   -- lists written as a delivery and read again, into rows that are long enough, are the lists that they were
-  pub lists-read-back : (numbers ends bytes lent-numbers lent-ends : List ℕ) → Numbers numbers → (ls : List (List ℕ)) → lists-of numbers ends ≡ accepted ls
-      → encode-delivery numbers ends bytes .number ≡ 0 → length (all-numbers ls) ≤ length lent-numbers → length ls ≤ length lent-ends
-      → let s = decode-delivery (wrote (encode-delivery numbers ends bytes)) lent-numbers lent-ends in (s .number ≡ 0) × (lists-read s ≡ accepted ls)
+  pub lists-read-back : (l : Lent) (bytes lent-numbers lent-ends : List ℕ) → Numbers (l .numbers) → (ls : List (List ℕ)) → lists-of l ≡ accepted ls
+      → encode-delivery l bytes .number ≡ 0 → length (all-numbers ls) ≤ length lent-numbers → length ls ≤ length lent-ends
+      → let s = decode-delivery (wrote (encode-delivery l bytes)) lent-numbers lent-ends in (s .number ≡ 0) × (lists-of (left-lent s) ≡ accepted ls)
   -- a delivery read and written again is the bytes that it was
   pub delivery-written-back : (bytes lent-numbers lent-ends lent : List ℕ) → Bytes bytes → decode-delivery bytes lent-numbers lent-ends .number ≡ 0 → length bytes ≤ length lent
-      → let s = decode-delivery bytes lent-numbers lent-ends in encode-delivery (getD (s .rows) 0 []) (take (getD (s .parts) 0 0) (getD (s .rows) 1 [])) lent ≡ wrote-all bytes lent
+      → encode-delivery (left-lent (decode-delivery bytes lent-numbers lent-ends)) lent ≡ wrote-all bytes lent
 
 -- ---- demand 3, about the call, in the customer's sentences, over any lists and expression that nobody changes meanwhile
 
@@ -106,71 +94,71 @@ pub record Second-demand : Type 0 where
 abbrev pub ran-all : Result → List ℕ → Sent
 ran-all r lent = record {
   number = 0;
-  parts = run-parts (r .moves) (r .places) (r .bookmark);
+  parts = run-parts (r .moves) (r .places) (r .last);
   rows = (map encode (r .replies) ++ drop (length (r .replies)) lent) ∷ [];
 }
 
-module _ (numbers ends expression : List ℕ) where
+module _ (l : Lent) (expression : List ℕ) where
   -- one run, accepted; the call sends back its result. "In every one of these runs the reported reader moves and places
   -- equal those of the steps in document 01, and the moves never exceed the summed lengths of the lists at the
   -- expression's leaves"; a place never passes its list's end, and is 0 at operators and unused nodes
-  pub record Sound-run (s : Source) (bookmark : ℕ) (codes ds lent : List ℕ) (r : Result) : Type 0 where
-    pub accepts : run-of numbers ends expression bookmark codes ds (length lent) ≡ accepted r
-    pub sends : run-call numbers ends expression bookmark codes ds lent ≡ ran-all r lent
-    pub by-the-steps : r ≡ run (s .lists) (s .tree) bookmark (calls codes ds)
-    pub bounded : r .moves ≤ sum (lengths (s .lists) (s .tree))
+  pub record Sound-run (s : Source) (start : Start) (codes ds lent : List ℕ) (r : Result) : Type 0 where
+    pub accepts : run-of l expression start codes ds (length lent) ≡ accepted r
+    pub sends : run-call l expression start codes ds lent ≡ ran-all r lent
+    pub by-the-steps : r ≡ run (s .lists) (s .tree) start (calls codes ds)
+    pub bounded : r .moves ≤ sum (lengths (map length (s .lists)) (s .tree))
     pub summed : r .moves ≡ sum (r .places)
     pub places : length (r .places) ≡ 48
-    pub inside : (i : ℕ) → getD (r .places) i 0 ≤ getD (lengths (s .lists) (s .tree)) i 0
+    pub inside : (i : ℕ) → getD (r .places) i 0 ≤ getD (lengths (map length (s .lists)) (s .tree)) i 0
 
   -- "Next calls from that bookmark then hand out every member at or above it, ascending, exactly once, and after that
   -- reply finished": n nexts, for every n
-  pub record Drawn (s : Source) (bookmark : ℕ) : Type 0 where
+  pub record Drawn (s : Source) (start : Start) : Type 0 where
     pub members : List ℕ
     pub ascend : ascending members ≡ true
-    pub every : (x : ℕ) → among x members ≡ leb bookmark x && member (s .lists) (s .tree) x
+    pub every : (x : ℕ) → among x members ≡ leb (start .bookmark) x && member (s .lists) (s .tree) x
     pub result : ℕ → Result
-    pub ran : (n : ℕ) (ds : List ℕ) → length ds ≡ n → (lent : List ℕ) → n ≤ length lent → Sound-run s bookmark (replicate n 0) ds lent (result n)
+    pub ran : (n : ℕ) (ds : List ℕ) → length ds ≡ n → (lent : List ℕ) → n ≤ length lent → Sound-run s start (replicate n 0) ds lent (result n)
     pub replies : (n : ℕ) → result n .replies ≡ map Member (take n members) ++ replicate (n - length members) Finished
 
   -- "Wherever between its calls, or at either end, such a list is broken off, the rest is taken up from the bookmark
   -- handed back; both parts' replies, one after the other, and the last bookmark equal those of the list unbroken": after
   -- k calls, each part into a reply row of its own
-  pub record Broken (s : Source) (bookmark : ℕ) (codes ds : List ℕ) (r : Result) (k : ℕ) : Type 0 where
+  pub record Broken (s : Source) (start : Start) (codes ds : List ℕ) (r : Result) (k : ℕ) : Type 0 where
     pub first : Result
-    pub first-ran : (lent : List ℕ) → length (take k codes) ≤ length lent → Sound-run s bookmark (take k codes) (take k ds) lent first
+    pub first-ran : (lent : List ℕ) → length (take k codes) ≤ length lent → Sound-run s start (take k codes) (take k ds) lent first
     pub second : Result
-    pub second-ran : (lent : List ℕ) → length (drop k codes) ≤ length lent → Sound-run s (first .bookmark) (drop k codes) (drop k ds) lent second
+    pub second-ran : (lent : List ℕ) → length (drop k codes) ≤ length lent → Sound-run s (first .last) (drop k codes) (drop k ds) lent second
     pub replies : r .replies ≡ first .replies ++ second .replies
-    pub last : r .bookmark ≡ second .bookmark
+    pub last : r .last ≡ second .last
 
   -- demand 3 of one list of calls: it is accepted into every reply row that is long enough, "after it the replies, in
   -- order, and the bookmark are exactly those of document 01's plain machine", and the rest
-  pub record Demand-three (s : Source) (bookmark : ℕ) (codes ds : List ℕ) : Type 0 where
+  pub record Demand-three (s : Source) (start : Start) (codes ds : List ℕ) : Type 0 where
     pub result : Result
-    pub ran : (lent : List ℕ) → length codes ≤ length lent → Sound-run s bookmark codes ds lent result
-    pub plain : (result .replies, result .bookmark) ≡ machine (s .lists) (s .tree) bookmark (calls codes ds)
-    pub drawn : Drawn s (result .bookmark)
-    pub broken : (k : ℕ) → Broken s bookmark codes ds result k
+    pub ran : (lent : List ℕ) → length codes ≤ length lent → Sound-run s start codes ds lent result
+    pub plain : (result .replies, result .last .bookmark) ≡ machine (members (s .lists) (s .tree)) (start .bookmark) (calls codes ds)
+    pub drawn : Drawn s (result .last)
+    pub broken : (k : ℕ) → Broken s start codes ds result k
 
   -- demand 3 of what one call has sent back: that is the result of which the demand speaks, over the row that it was lent
-  pub record Meets-third (s : Source) (bookmark : ℕ) (codes ds lent : List ℕ) (back : Sent) : Type 0 where
-    pub demand : Demand-three s bookmark codes ds
+  pub record Meets-third (s : Source) (start : Start) (codes ds lent : List ℕ) (back : Sent) : Type 0 where
+    pub demand : Demand-three s start codes ds
     pub is-result : back ≡ ran-all (demand .result) lent
 
 -- the demand: "For every list of next, at-or-past, past and check calls, unknown codes included, from any accepted
 -- bookmark and over any accepted lists and expression". 32-bit rows hold numbers; lists, expression and bookmark are
 -- accepted by the tests ahead of 13; 13 asks for as many numbers as codes
 abbrev pub Third-demand : Type 0
-Third-demand = (numbers ends expression : List ℕ) → Numbers numbers → (s : Source) → source-of numbers ends expression ≡ accepted s
-    → (bookmark : ℕ) → bookmark ≤ top → (codes ds : List ℕ) → Numbers ds → length codes ≡ length ds
-    → Demand-three numbers ends expression s bookmark codes ds
+Third-demand = (l : Lent) (expression : List ℕ) → Numbers (l .numbers) → (s : Source) → source-of l expression ≡ accepted s
+    → (start : Start) → Low start → (codes ds : List ℕ) → Numbers ds → length codes ≡ length ds
+    → Demand-three l expression s start codes ds
 
 -- the demand of one call, for its contract: if the tests ahead of 13 accept what it was given, and 13 as well, then it has
 -- sent back the result that the demand asks for
-abbrev pub Third-demand-met : List ℕ → List ℕ → List ℕ → ℕ → List ℕ → List ℕ → List ℕ → Sent → Type 0
-Third-demand-met numbers ends expression bookmark codes ds lent back = (s : Source) → source-of numbers ends expression ≡ accepted s → bookmark ≤ top
-    → length codes ≡ length ds → length codes ≤ length lent → Meets-third numbers ends expression s bookmark codes ds lent back
+abbrev pub Third-demand-met : Lent → List ℕ → Start → List ℕ → List ℕ → List ℕ → Sent → Type 0
+Third-demand-met l expression start codes ds lent back = (s : Source) → source-of l expression ≡ accepted s → Low start
+    → length codes ≡ length ds → length codes ≤ length lent → Meets-third l expression s start codes ds lent back
 
 -- a next for each member and one more; its number is ignored
 abbrev pub nexts : List ℕ → List ℕ
@@ -189,6 +177,6 @@ pub record Listed (input : List ℕ) (l : Listing) : Type 0 where
   pub every : (x : ℕ) → among x (l .members) ≡ member (source .lists) (source .tree) x
   pub result : Result
   pub ran : (lent : List ℕ) → suc (length (l .members)) ≤ length lent
-      → Sound-run (all-numbers (source .lists)) (ends-from 0 (source .lists)) (stored .0) source 0 (nexts (l .members)) (nexts (l .members)) lent result
+      → Sound-run (laid-out (source .lists)) (stored .0) source (starting 0) (nexts (l .members)) (nexts (l .members)) lent result
   pub replies : result .replies ≡ map Member (l .members) ++ (Finished ∷ [])
   pub moved : result .moves ≡ l .moves

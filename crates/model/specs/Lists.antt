@@ -47,13 +47,21 @@ unfoldable pub ends-hold : ℕ → ℕ → List ℕ → Bool
 ends-hold size start [] = true
 ends-hold size start (stop ∷ ends) = leb start stop && (leb stop size && (leb (stop - start) 65535 && ends-hold size stop ends))
 
+-- lists as they are lent: "all numbers in one row, plus one end for each list"
+pub record Lent : Type 0 where
+  pub numbers : List ℕ
+  pub ends : List ℕ
+
+abbrev pub lend : List ℕ → List ℕ → Lent
+lend numbers ends = record { numbers = numbers; ends = ends }
+
 -- the lists, after 7, 10 and 11, each over all lists before the next
-unfoldable pub lists-of : List ℕ → List ℕ → Outcome (List (List ℕ))
-lists-of numbers ends = do
-  require 7 (count-holds (length ends))
-  require 10 (ends-hold (length numbers) 0 ends)
-  require 11 (all-ascending (lists-from numbers 0 ends))
-  accepted (lists-from numbers 0 ends)
+unfoldable pub lists-of : Lent → Outcome (List (List ℕ))
+lists-of l = do
+  require 7 (count-holds (length (l .ends)))
+  require 10 (ends-hold (length (l .numbers)) 0 (l .ends))
+  require 11 (all-ascending (lists-from (l .numbers) 0 (l .ends)))
+  accepted (lists-from (l .numbers) 0 (l .ends))
 
 -- "One more call": where list k's part stands in the lent numbers, and its length
 pub record Span : Type 0 where
@@ -65,12 +73,12 @@ unfoldable pub or-empty : Outcome Span → Span
 or-empty (refused n) = record { start = 0; size = 0 }
 or-empty (accepted s) = s
 
-unfoldable pub span-of : List ℕ → List ℕ → ℕ → Span
-span-of numbers ends k = or-empty (do
-  ls ← lists-of numbers ends
+unfoldable pub span-of : Lent → ℕ → Span
+span-of l k = or-empty (do
+  ls ← lists-of l
   require 4 (ltb k (length ls))
-  accepted (record { start = getD (0 ∷ ends) k 0; size = length (getD ls k []) }))
+  accepted (record { start = getD (0 ∷ l .ends) k 0; size = length (getD ls k []) }))
 
 -- the part itself
-unfoldable pub part-of : List ℕ → List ℕ → ℕ → List ℕ
-part-of numbers ends k = take (span-of numbers ends k .size) (drop (span-of numbers ends k .start) numbers)
+unfoldable pub part-of : Lent → ℕ → List ℕ
+part-of l k = take (span-of l k .size) (drop (span-of l k .start) (l .numbers))

@@ -5,9 +5,9 @@ use lib.Dec.{leb}
 use lib.ListN.{length, take, drop, replicate}
 use Rattle.model.specs.Outcome.{Outcome, refused, accepted, _>>=_, _>>_, require, Success, Sent, sent}
 use Rattle.model.specs.Expression.{Tree}
-use Rattle.model.specs.Sets.{members-from}
+use Rattle.model.specs.Sets.{members}
 use Rattle.model.specs.Machine.{next}
-use Rattle.model.specs.Run.{run}
+use Rattle.model.specs.Run.{starting, run}
 use Rattle.model.specs.Forms.{read-packed}
 use Rattle.model.specs.Delivery.{read-delivery}
 
@@ -25,7 +25,7 @@ pub record Listing : Type 0 where
 
 -- "In one run from bookmark 0, whose only finished is its last reply": a next for each member and one more
 unfoldable pub listing-of : List (List ℕ) → Tree → Listing
-listing-of ls t = let ms = members-from ls t 0 in record { members = ms; moves = run ls t 0 (replicate (suc (length ms)) next) .moves }
+listing-of ls t = let ms = members ls t in record { members = ms; moves = run ls t (starting 0) (replicate (suc (length ms)) next) .moves }
 
 -- "the whole input's size is tested first", then the halves, "then the delivery, then the expression"
 unfoldable pub listing : List ℕ → Outcome Listing

@@ -1,13 +1,13 @@
 -- "Generator steps", a run: each call gets the floor, places and moves that the call before it left.
 use mathlib.Core.Bool.{true, false, _&&_, cond}
 use mathlib.Core.List.{List, [], _∷_}
-use Prim.Native.Nat.{ℕ, suc, max}
+use Prim.Native.Nat.{ℕ, suc, _≤_, max}
 use lib.Dec.{ltb, leb, eqb}
 use lib.ListN.{length, replicate}
 use Rattle.model.specs.declared.Reply.{Reply}
 use Rattle.model.specs.declared.Reply.the-variants.{Member, Finished, Yes, No, Unknown}
 use Rattle.model.specs.Outcome.{Outcome, accepted, _>>=_, _>>_, require}
-use Rattle.model.specs.Lists.{top, lists-of}
+use Rattle.model.specs.Lists.{top, Lent, lists-of}
 use Rattle.model.specs.Expression.{Tree}
 use Rattle.model.specs.Machine.{Call, next, at-or-past, past, check, other, calls}
 use Rattle.model.specs.Steps.{Readers, Found, end, at, Checked, says, seek, check-node}
@@ -43,38 +43,49 @@ steps ls t s (c ∷ cs) =
     let (rs, last) = steps ls t after cs in
     (r ∷ rs, last)
 
+-- where a run begins, and where one that goes on from it does: the bookmark
+pub record Start : Type 0 where
+  pub bookmark : ℕ
+
+abbrev pub starting : ℕ → Start
+starting bookmark = record { bookmark = bookmark }
+
+-- 12 does not apply
+abbrev pub Low : Start → Type 0
+Low start = start .bookmark ≤ top
+
 -- "A run begins with the bookmark handed in as floor, every reader at place 0 and no moves"
-unfoldable pub begin : ℕ → State
-begin bookmark = record { floor = bookmark; readers = record { places = replicate 48 0; moves = 0 } }
+unfoldable pub begin : Start → State
+begin start = record { floor = start .bookmark; readers = record { places = replicate 48 0; moves = 0 } }
 
 -- what a run hands back
 pub record Result : Type 0 where
   pub replies : List Reply
   pub moves : ℕ
   pub places : List ℕ
-  pub bookmark : ℕ
+  pub last : Start
 
-unfoldable pub run : List (List ℕ) → Tree → ℕ → List Call → Result
-run ls t bookmark cs =
-    let (rs, s) = steps ls t (begin bookmark) cs in
-    record { replies = rs; moves = s .readers .moves; places = s .readers .places; bookmark = s .floor }
+unfoldable pub run : List (List ℕ) → Tree → Start → List Call → Result
+run ls t start cs =
+    let (rs, s) = steps ls t (begin start) cs in
+    record { replies = rs; moves = s .readers .moves; places = s .readers .places; last = starting (s .floor) }
 
 -- lists and expression, by what a run tests ahead of the bookmark: 7, 10, 11; 1 to 5
 pub record Source : Type 0 where
   pub lists : List (List ℕ)
   pub tree : Tree
 
-unfoldable pub source-of : List ℕ → List ℕ → List ℕ → Outcome Source
-source-of numbers ends expression = do
-  ls ← lists-of numbers ends
-  t ← read-packed (length ends) expression
+unfoldable pub source-of : Lent → List ℕ → Outcome Source
+source-of l expression = do
+  ls ← lists-of l
+  t ← read-packed (length (l .ends)) expression
   accepted (record { lists = ls; tree = t })
 
 -- "A run takes, in this order of checking: lists [..], the packed expression [..], bookmark (12), row lengths (13)";
 -- `room` is the length of the lent reply row
-unfoldable pub run-of : List ℕ → List ℕ → List ℕ → ℕ → List ℕ → List ℕ → ℕ → Outcome Result
-run-of numbers ends expression bookmark codes ds room = do
-  s ← source-of numbers ends expression
-  require 12 (leb bookmark top)
+unfoldable pub run-of : Lent → List ℕ → Start → List ℕ → List ℕ → ℕ → Outcome Result
+run-of l expression start codes ds room = do
+  s ← source-of l expression
+  require 12 (leb (start .bookmark) top)
   require 13 (eqb (length codes) (length ds) && leb (length codes) room)
-  accepted (run (s .lists) (s .tree) bookmark (calls codes ds))
+  accepted (run (s .lists) (s .tree) start (calls codes ds))

@@ -1,9 +1,8 @@
 -- The set that an expression denotes, by union, intersection and difference alone. It knows nothing of the steps.
 use mathlib.Core.Bool.{Bool, true, false, not, _&&_, _||_}
 use mathlib.Core.List.{List, [], _∷_, _++_}
-use mathlib.Core.Option.{Option, none, some}
-use Prim.Native.Nat.{ℕ, min}
-use lib.Dec.{ltb, leb, eqb}
+use Prim.Native.Nat.{ℕ}
+use lib.Dec.{ltb, eqb}
 use lib.ListN.{getD}
 use Rattle.model.specs.Expression.{Tree, leaf, difference, union, intersection, Members, one, more}
 
@@ -33,19 +32,6 @@ unfoldable pub all-numbers : List (List ℕ) → List ℕ
 all-numbers [] = []
 all-numbers (l ∷ ls) = l ++ all-numbers ls
 
--- the least number of a row that passes a test
-unfoldable pub lower : ℕ → Option ℕ → Option ℕ
-lower x none = some x
-lower x (some y) = some (min x y)
-
-unfoldable pub least : (ℕ → Bool) → List ℕ → Option ℕ
-least p [] = none
-least p (x ∷ xs) = elim (p x) [ true ↦ lower x (least p xs) | false ↦ least p xs ]
-
--- "the least member not below the floor"
-unfoldable pub least-from : List (List ℕ) → Tree → ℕ → Option ℕ
-least-from ls t floor = least (λ x. leb floor x && member ls t x) (all-numbers ls)
-
 -- the numbers of a row that pass a test, ascending, each once
 unfoldable pub insert : ℕ → List ℕ → List ℕ
 insert x [] = x ∷ []
@@ -55,6 +41,6 @@ unfoldable pub select : (ℕ → Bool) → List ℕ → List ℕ
 select p [] = []
 select p (x ∷ xs) = elim (p x) [ true ↦ insert x (select p xs) | false ↦ select p xs ]
 
--- the members at or above a bookmark, ascending
-unfoldable pub members-from : List (List ℕ) → Tree → ℕ → List ℕ
-members-from ls t bookmark = select (λ x. leb bookmark x && member ls t x) (all-numbers ls)
+-- the denoted set as a row: its members, ascending
+unfoldable pub members : List (List ℕ) → Tree → List ℕ
+members ls t = select (member ls t) (all-numbers ls)

@@ -37,12 +37,17 @@ unfoldable pub answer : List ℕ → Readers → Found
 answer [] rs = end rs
 answer (x ∷ xs) rs = at x rs
 
--- A3(1), the reader of the node i over the list l; each move counts
+-- "A move adds 1 to a place": how many moves that counts
+unfoldable pub moves-to : List ℕ → ℕ → ℕ
+moves-to left e = passed left e
+
+-- A3(1), the reader of the node i over the list l
 unfoldable pub read : List ℕ → ℕ → Seek
 read l i e rs =
     let place = getD (rs .places) i 0 in
-    let n = passed (drop place l) e in
-    answer (drop (place + n) l) (record { places = set (rs .places) i (place + n); moves = rs .moves + n })
+    let left = drop place l in
+    let after = place + passed left e in
+    answer (drop after l) (record { places = set (rs .places) i after; moves = rs .moves + moves-to left e })
 
 -- how often a step may repeat: it repeats at a higher number, and no seek answers past 4,294,967,295, so that the
 -- clauses at zero below are never come to (proofs/Fuel.antt)
