@@ -2,3 +2,4 @@
 pub mod Rise
 pub mod Span
 pub mod Place
+pub mod Readable

@@ -7,7 +7,7 @@ ghost use Prim.Native.Nat.{_≤_};
 ghost use denote.Ref.{ptr};
 ghost use lib.ListN.{length, getD};
 ghost use Rattle.model.specs.Outcome.{number-of};
-ghost use Rattle.model.specs.Lists.{ascending, all-ascending, lists-from, count-holds, ends-hold, lists-of, span-of, part-of};
+ghost use Rattle.model.specs.Lists.{ascending, all-ascending, lists-from, count-holds, ends-hold, lend, lists-of, span-of, part-of};
 ghost use Rattle.lists.specs.Rise.{rise, rise-says};
 ghost use Rattle.lists.specs.Place.{element-at};
 ghost use Rattle.lists.specs.Span.{span-says};
@@ -127,7 +127,7 @@ fn all_ascending(numbers: &[u32], ends: &[u32]) -> bool
 
 // The first of 7, 10 and 11 that refuses the lists, or 0.
 pub fn test_lists(numbers: &[u32], ends: &[u32]) -> u32
-    ensures { λ r. ⌜ r ≡ number-of (lists-of (now (numbers .entry)) (now (ends .entry))) ⌝ }
+    ensures { λ r. ⌜ r ≡ number-of (lists-of (lend (now (numbers .entry)) (now (ends .entry)))) ⌝ }
 {
     if !count_holds(ends.len()) {
         return 7;
@@ -154,7 +154,7 @@ pub fn start_of(ends: &[u32], k: usize) -> usize
 
 // Where list k's part stands; the empty part at the start where 7, 10 or 11 would apply or there is no list k.
 pub fn list_span(numbers: &[u32], ends: &[u32], k: usize) -> Span
-    ensures { λ r. ⌜ span-says r ≡ span-of (now (numbers .entry)) (now (ends .entry)) k ⌝ }
+    ensures { λ r. ⌜ span-says r ≡ span-of (lend (now (numbers .entry)) (now (ends .entry))) k ⌝ }
 {
     if test_lists(numbers, ends) != 0 {
         return Span { start: 0, size: 0 };
@@ -172,8 +172,8 @@ pub fn list_span(numbers: &[u32], ends: &[u32], k: usize) -> Span
 
 // List k's part of the lent numbers itself: its numbers, and where it points.
 pub fn list_part<'a>(numbers: &'a [u32], ends: &[u32], k: usize) -> &'a [u32]
-    ensures part { λ r. ⌜ now r ≡ part-of (now (numbers .entry)) (now (ends .entry)) k ⌝ }
-    ensures place { λ r. ⌜ ptr r ≡ element-at (ptr (numbers .entry)) (span-of (now (numbers .entry)) (now (ends .entry)) k .start) ⌝ }
+    ensures part { λ r. ⌜ now r ≡ part-of (lend (now (numbers .entry)) (now (ends .entry))) k ⌝ }
+    ensures place { λ r. ⌜ ptr r ≡ element-at (ptr (numbers .entry)) (span-of (lend (now (numbers .entry)) (now (ends .entry))) k .start) ⌝ }
 {
     let span = list_span(numbers, ends, k);
     let from = span.start;

@@ -196,8 +196,8 @@ passed-le (x ∷ xs) e = go (ltb x e) (passed-le xs e)
     go true h = omega arith
     go false h = omega arith
 
--- each place that is passed counts as one move; no more than these are counted, and none where none is passed
-moves-all : (left : List ℕ) (e : ℕ) → moves-to left e ≡ passed left e
+-- each place that is passed counts as one move; what needs no more than a bound asks only the second
+pub moves-all : (left : List ℕ) (e : ℕ) → moves-to left e ≡ passed left e
 unfolding moves-to
 moves-all left e = refl
 

@@ -11,10 +11,10 @@ use lib.ListN.{replicate, length, length-set, getD, set, drop, drop-of-length-le
 use lib.Seq.{drop-cons, getD-drop}
 use Rattle.model.specs.Lists.{top}
 use Rattle.model.specs.Steps as model
-use Rattle.model.specs.Steps.{at, passed, answer, read}
+use Rattle.model.specs.Steps.{at, passed, moves-to, answer, read}
 use Rattle.model.specs.Demands.{sum}
 use Rattle.model.proofs.Seek.{passed-on, passed-off}
-use Rattle.model.proofs.Places.{passed-le, sum-set}
+use Rattle.model.proofs.Places.{passed-le, moves-all, sum-set}
 use Rattle.reader.specs.declared.Readers.{Readers}
 use Rattle.reader.specs.declared.ReadResult.{ReadResult}
 use Rattle.reader.specs.Sought.{found, Tallied, Sound, Read, Stays}
@@ -75,40 +75,41 @@ moves-few rs t = omega (arith, t .within, rw (t .many) at (sum-bound (rs .places
 abbrev after : model.Readers → ℕ → ℕ → ℕ → model.Readers
 after rs i place n = record { places = set (rs .places) i place; moves = rs .moves + n }
 
--- what is known of the place where a reader over a list stops
-pub record Stopped (list : List ℕ) (before to place : ℕ) : Type 0 where
+-- what is known of the place where a reader over a list stops, by n moves
+pub record Stopped (list : List ℕ) (before to place n : ℕ) : Type 0 where
   pub small : before ≤ 65535 → length list ≤ 65535 → place ≤ 65535
   pub above : place < length list → to ≤ getD list place 0
   pub number : (x : ℕ) → place < length list → x ≡ getD list place 0 → x < top
-      → (i : ℕ) (rs : model.Readers) → getD (rs .places) i 0 ≡ before → found x (after rs i place (place - before)) ≡ read list i to rs
+      → (i : ℕ) (rs : model.Readers) → getD (rs .places) i 0 ≡ before → found x (after rs i place n) ≡ read list i to rs
   pub finished : length list ≤ place
-      → (i : ℕ) (rs : model.Readers) → getD (rs .places) i 0 ≡ before → found top (after rs i place (place - before)) ≡ read list i to rs
+      → (i : ℕ) (rs : model.Readers) → getD (rs .places) i 0 ≡ before → found top (after rs i place n) ≡ read list i to rs
 
-pub stopped : (list : List ℕ) (before to place : ℕ) → place ≡ before + passed (drop before list) to → Stopped list before to place
+-- moved one by one, a reader counts the places that it has passed
+pub one-by-one : (list : List ℕ) (before to place : ℕ) → place ≡ before + passed (drop before list) to → place - before ≡ moves-to (drop before list) to
+one-by-one list before to place is = omega (arith, is, moves-all (drop before list) to)
+
+pub stopped : (list : List ℕ) (before to place n : ℕ) → place ≡ before + passed (drop before list) to → n ≡ moves-to (drop before list) to → Stopped list before to place n
 unfolding read answer
-stopped list before to place is = record { small = small; above = above; number = number; finished = finished }
+stopped list before to place n is count = record { small = small; above = above; number = number; finished = finished }
   where
-    n : ℕ
-    n = passed (drop before list) to
-
-    left : n ≤ length list - before
+    left : passed (drop before list) to ≤ length list - before
     left = omega (arith, passed-le (drop before list) to, length-drop before list)
 
     small : before ≤ 65535 → length list ≤ 65535 → place ≤ 65535
     small h k = omega (arith, left, is)
 
     above : place < length list → to ≤ getD list place 0
-    above h = rw (is, ← getD-drop before list n 0) (stop-above (drop before list) to (omega (arith, is, length-drop before list)))
+    above h = rw (is, ← getD-drop before list (passed (drop before list) to) 0) (stop-above (drop before list) to (omega (arith, is, length-drop before list)))
 
-    reads : (i : ℕ) (rs : model.Readers) → getD (rs .places) i 0 ≡ before → read list i to rs ≡ answer (drop place list) (after rs i place (place - before))
-    reads i rs here = let moves : place - before ≡ n = omega (arith, is) in rw (here, ← is, moves)
+    reads : (i : ℕ) (rs : model.Readers) → getD (rs .places) i 0 ≡ before → read list i to rs ≡ answer (drop place list) (after rs i place n)
+    reads i rs here = rw (here, ← is, ← count)
 
     number : (x : ℕ) → place < length list → x ≡ getD list place 0 → x < top
-        → (i : ℕ) (rs : model.Readers) → getD (rs .places) i 0 ≡ before → found x (after rs i place (place - before)) ≡ read list i to rs
-    number x h e lt i rs here = found-at x _ lt ∙ ap (λ (y : ℕ). at y (after rs i place (place - before))) e ∙ sym (reads i rs here ∙ ap (λ (l : List ℕ). answer l (after rs i place (place - before))) (drop-cons list place 0 h))
+        → (i : ℕ) (rs : model.Readers) → getD (rs .places) i 0 ≡ before → found x (after rs i place n) ≡ read list i to rs
+    number x h e lt i rs here = found-at x _ lt ∙ ap (λ (y : ℕ). at y (after rs i place n)) e ∙ sym (reads i rs here ∙ ap (λ (l : List ℕ). answer l (after rs i place n)) (drop-cons list place 0 h))
 
-    finished : length list ≤ place → (i : ℕ) (rs : model.Readers) → getD (rs .places) i 0 ≡ before → found top (after rs i place (place - before)) ≡ read list i to rs
-    finished h i rs here = found-end top _ (omega arith) ∙ sym (reads i rs here ∙ ap (λ (l : List ℕ). answer l (after rs i place (place - before))) (drop-of-length-le list h))
+    finished : length list ≤ place → (i : ℕ) (rs : model.Readers) → getD (rs .places) i 0 ≡ before → found top (after rs i place n) ≡ read list i to rs
+    finished h i rs here = found-end top _ (omega arith) ∙ sym (reads i rs here ∙ ap (λ (l : List ℕ). answer l (after rs i place n)) (drop-of-length-le list h))
 
 -- ---- a reader that stays
 set-same : (ps : List ℕ) (i : ℕ) → set ps i (getD ps i 0) ≡ ps

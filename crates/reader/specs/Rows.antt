@@ -8,9 +8,9 @@ use lib.ListN.{length, getD}
 use Rattle.model.specs.declared.Node.{Node}
 use Rattle.model.specs.declared.Node.the-variants.{Leaf, Difference, Union, Intersection}
 use Rattle.model.specs.Outcome.{accepted}
-use Rattle.model.specs.Lists.{lists-from, lists-of}
 use Rattle.model.specs.Expression.{Tree, leaf, difference, union, intersection, Members, one, more, size, count}
 use Rattle.model.specs.Forms.{node-of}
+use Rattle.lists.specs.Readable.{Readable}
 
 -- the node i of a row of 48 is this one
 abbrev pub Is : List ℕ → ℕ → Node → Type 0
@@ -49,9 +49,9 @@ pub record Standing-each (lists : ℕ) (nodes : List ℕ) (i n : ℕ) : Type 0 w
 abbrev pub Behind : List ℕ → List ℕ → Type 0
 Behind nodes behind = (lists : ℕ) (t : Tree) (i : ℕ) → Stands lists nodes t i → getD behind i 0 ≡ i + size t
 
--- what a generator is lent: accepted lists, and the table that belongs to the row
+-- what a generator is lent: lists that can be read, and the table that belongs to the row
 pub record Ready (numbers ends nodes behind : List ℕ) : Type 0 where
-  pub lists : lists-of numbers ends ≡ accepted (lists-from numbers 0 ends)
+  pub lists : Readable numbers ends
   pub table : Behind nodes behind
 
 -- so many siblings on from a node, by a table of ends; a node that is not there ends them

@@ -4,12 +4,13 @@ ghost use mathlib.Core.List.{[]};
 ghost use Prim.Native.Nat.{ℕ, _+_, _≤_, _<_};
 ghost use lib.ListN.{length, getD, drop};
 ghost use Rattle.model.specs.Outcome.{accepted};
-ghost use Rattle.model.specs.Lists.{top, lists-from, lists-of};
+ghost use Rattle.model.specs.Lists.{top, lists-from};
 ghost use Rattle.model.specs.Steps.{passed};
 ghost use Rattle.model.specs.declared.Node.{Node};
 ghost use Rattle.model.specs.declared.Node.the-variants.{Leaf};
 ghost use Rattle.model.specs.Forms.{node-of};
 ghost use Rattle.expression.specs.Reading.{members};
+ghost use Rattle.lists.specs.Readable.{Readable};
 ghost use Rattle.reader.specs.Rows.{Behind, siblings};
 ghost use Rattle.reader.specs.Sought.{Read, Reads};
 use expression::Kind;
@@ -91,7 +92,7 @@ fn moved(list: &[u32], place: usize, to: u64) -> usize
 
 // The reader of list k, from its place: "At the list's end it is finished, else it answers the number".
 pub fn read_list(numbers: &[u32], ends: &[u32], k: usize, place: u16, to: u64) -> ReadResult
-    requires { ⌜ lists-of (now numbers) (now ends) ≡ accepted (lists-from (now numbers) 0 (now ends)) ⌝ }
+    requires { ⌜ Readable (now numbers) (now ends) ⌝ }
     requires { ⌜ (k < length (now ends)) × (to ≤ top) ⌝ }
     ensures { λ r. ⌜ Read (getD (lists-from (now (numbers .entry)) 0 (now (ends .entry))) k []) place to r ⌝ }
 {
@@ -119,7 +120,7 @@ pub fn read_list(numbers: &[u32], ends: &[u32], k: usize, place: u16, to: u64) -
 
 // The member node of a byte: "0 to 31 a list", whose reader steps from its place; any other byte is no list.
 pub fn read_member(numbers: &[u32], ends: &[u32], byte: u8, place: u16, to: u64) -> MemberRead
-    requires { ⌜ lists-of (now numbers) (now ends) ≡ accepted (lists-from (now numbers) 0 (now ends)) ⌝ }
+    requires { ⌜ Readable (now numbers) (now ends) ⌝ }
     requires { ⌜ ((k : ℕ) → node-of byte ≡ accepted (Leaf k) → k < length (now ends)) × (to ≤ top) ⌝ }
     ensures { λ r. ⌜ Reads (now (numbers .entry)) (now (ends .entry)) byte place to r ⌝ }
 {

@@ -12,7 +12,7 @@ use Rattle.model.specs.Expression.{Tree, difference, union, intersection, Membe
 use Rattle.model.specs.Forms.{node-of}
 use Rattle.model.specs.Steps.{Readers, Found, Seek, read, seek}
 use Rattle.model.proofs.Order.{Up}
-use Rattle.model.proofs.Accepted.{accepted-up}
+use Rattle.lists.proofs.Spans.{readable-up}
 use Rattle.model.proofs.Fuel.{differ-with, intersect-with, seek-difference}
 use Rattle.expression.specs.Reading.{members}
 use Rattle.reader.specs.Rows.{Stands, Behind, Ready}
@@ -49,7 +49,7 @@ module _ (numbers ends nodes behind : List ℕ) (n : Numbers numbers) (r : Ready
   others-seek ts = seek-each ls ts (getD behind (node + 1) 0)
 
   up : (k : ℕ) → Up 0 (getD ls k [])
-  up = accepted-up numbers ends ls n (r .lists)
+  up = readable-up numbers ends n (r .lists)
 
   -- ---- difference
   pub both : (t : Tree) (p : Pair r node t) → At t node → (e : ℕ) (rs : Readers) → e ≤ top → length (rs .places) ≡ 48

@@ -1,10 +1,9 @@
 -- `list_part` meets its contract: the span that it goes by is that of list k, and lies inside the numbers. Assumes nothing.
 use mathlib.Core.Path.{_≡_, ap}
-use mathlib.Core.List.{List}
 use Prim.Native.Nat.{ℕ, _+_, _-_, _≤_}
 use native.Mathlib.Omega.{arith}
 use lib.ListN.{length}
-use Rattle.model.specs.Lists.{Span, span-of, part-of}
+use Rattle.model.specs.Lists.{Lent, lend, Span, span-of, part-of}
 use Rattle.lists.specs.Place.{element-at}
 use Rattle.lists.specs.Span.{span-says}
 use Rattle.lists.proofs.Spans.{span-inside}
@@ -16,20 +15,20 @@ list-span-requires : tie.Need-list-span-requires
 list-span-requires c κs = search needs
 
 -- the span handed back is the one of the definitions, and inside the numbers
-record Handed (numbers ends : List ℕ) (k start size : ℕ) : Type 0 where
-  starts : start ≡ span-of numbers ends k .start
-  sizes : size ≡ span-of numbers ends k .size
-  inside : start + size ≤ length numbers
+record Handed (l : Lent) (k start size : ℕ) : Type 0 where
+  starts : start ≡ span-of l k .start
+  sizes : size ≡ span-of l k .size
+  inside : start + size ≤ length (l .numbers)
 
-spans : (c : tie.After-list-span) → let args = c .before .before .before .args in Handed (args .numbers .now) (args .ends .now) (args .k) (c .list-span .result .start) (c .list-span .result .size)
+spans : (c : tie.After-list-span) → let args = c .before .before .before .args in Handed (lend (args .numbers .now) (args .ends .now)) (args .k) (c .list-span .result .start) (c .list-span .result .size)
 unfolding span-says
 spans c =
     let args = c .before .before .before .args in
     let e = c .list-span .ensures in
-    let span : Span = span-of (args .numbers .now) (args .ends .now) (args .k) in
+    let span : Span = span-of (lend (args .numbers .now) (args .ends .now)) (args .k) in
     let a : c .list-span .result .start ≡ span .start = ap (λ (s : Span). s .start) e in
     let b : c .list-span .result .size ≡ span .size = ap (λ (s : Span). s .size) e in
-    record { starts = a; sizes = b; inside = rw (a, b) (span-inside (args .numbers .now) (args .ends .now) (args .k)) }
+    record { starts = a; sizes = b; inside = rw (a, b) (span-inside (lend (args .numbers .now) (args .ends .now)) (args .k)) }
 
 add-to : tie.Need-add-to
 add-to c = omega (arith, spans (c .before) .inside)

@@ -10,7 +10,7 @@ use lib.ListN.{length, getD, take, drop}
 use Rattle.model.specs.Lists.{top, part, lists-from}
 use Rattle.model.specs.Steps.{passed}
 use Rattle.lists.proofs.Spans.{list-runs}
-use Rattle.reader.proofs.Moves.{Stopped, stopped}
+use Rattle.reader.proofs.Moves.{Stopped, one-by-one, stopped}
 use Rattle.reader.proofs.read_list.Statement.{statement}
 use Rattle.reader.proofs.read_list.Tie as tie
 
@@ -33,11 +33,11 @@ listed c =
     rw (from, stop) (record { order = omega (arith, r .order); inside = r .inside; few = r .few; many = r .many; is = sym (r .is) })
 
 -- the reader stops where the step does
-stops : (c : tie.After-moved) → let args = c .before .before .before .before .before .before .before .args in Stopped (getD (lists-from (args .numbers .now) 0 (args .ends .now)) (args .k) []) (args .place) (args .to) (c .moved .result)
+stops : (c : tie.After-moved) → let args = c .before .before .before .before .before .before .before .args in Stopped (getD (lists-from (args .numbers .now) 0 (args .ends .now)) (args .k) []) (args .place) (args .to) (c .moved .result) (c .moved .result - args .place)
 stops c =
     let args = c .before .before .before .before .before .before .before .args in
-    stopped _ (args .place) (args .to) (c .moved .result)
-    (c .moved .ensures ∙ ap₂ (λ (b : ℕ) (l : List ℕ). b + passed (drop b l) (args .to)) (c .before .index .ensures .0) (listed (c .before .before .before) .is))
+    let is = c .moved .ensures ∙ ap₂ (λ (b : ℕ) (l : List ℕ). b + passed (drop b l) (args .to)) (c .before .index .ensures .0) (listed (c .before .before .before) .is) in
+    stopped _ (args .place) (args .to) (c .moved .result) _ is (one-by-one _ (args .place) (args .to) (c .moved .result) is)
 
 few : (c : tie.After-moved) → c .moved .result ≤ 65535
 few c =
