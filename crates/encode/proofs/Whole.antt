@@ -9,7 +9,7 @@ use lib.Dec.{leb}
 use lib.ListN.{length, drop, length-append, length-take}
 use borrow.Author.Tests.{le-leb, lt-leb, leb-true}
 use Rattle.model.specs.Outcome.{over, sent}
-use Rattle.model.specs.Lists.{Numbers, all-ascending, part, lists-from, count-holds, ends-hold, lists-of}
+use Rattle.model.specs.Lists.{Numbers, all-ascending, part, lists-from, count-holds, ends-hold, lend, lists-of}
 use Rattle.model.specs.Fields.{Bytes, field, bytes}
 use Rattle.model.specs.Delivery.{lists-bits, delivery}
 use Rattle.model.specs.Calls.{written, encode-delivery}
@@ -42,26 +42,26 @@ module _ (numbers ends lent : List ℕ) where
   abbrev ls : List (List ℕ)
   ls = lists-from numbers 0 ends
 
-  pub refuses-7 : count-holds (length ends) ≡ false → written (record { number = 7; count = 0 }) lent ≡ encode-delivery numbers ends lent
+  pub refuses-7 : count-holds (length ends) ≡ false → written (record { number = 7; count = 0 }) lent ≡ encode-delivery (lend numbers ends) lent
   unfolding encode-delivery sent lists-of
   refuses-7 h = rw h
 
   module _ (seven : count-holds (length ends) ≡ true) where
-    pub refuses-10 : ends-hold (length numbers) 0 ends ≡ false → written (record { number = 10; count = 0 }) lent ≡ encode-delivery numbers ends lent
+    pub refuses-10 : ends-hold (length numbers) 0 ends ≡ false → written (record { number = 10; count = 0 }) lent ≡ encode-delivery (lend numbers ends) lent
     unfolding encode-delivery sent lists-of
     refuses-10 h = rw (seven, h)
 
     module _ (ten : ends-hold (length numbers) 0 ends ≡ true) where
-      pub refuses-11 : all-ascending ls ≡ false → written (record { number = 11; count = 0 }) lent ≡ encode-delivery numbers ends lent
+      pub refuses-11 : all-ascending ls ≡ false → written (record { number = 11; count = 0 }) lent ≡ encode-delivery (lend numbers ends) lent
       unfolding encode-delivery sent lists-of
       refuses-11 h = rw (seven, ten, h)
 
       module _ (eleven : all-ascending ls ≡ true) where
-        pub refuses-6 : length lent < length (delivery ls) → written (record { number = 6; count = 0 }) lent ≡ encode-delivery numbers ends lent
+        pub refuses-6 : length lent < length (delivery ls) → written (record { number = 6; count = 0 }) lent ≡ encode-delivery (lend numbers ends) lent
         unfolding encode-delivery sent lists-of
         refuses-6 h = rw (seven, ten, eleven, lt-leb (length (delivery ls)) (length lent) h)
 
-        pub writes : length (delivery ls) ≤ length lent → written (record { number = 0; count = length (delivery ls) }) (delivery ls ++ drop (length (delivery ls)) lent) ≡ encode-delivery numbers ends lent
+        pub writes : length (delivery ls) ≤ length lent → written (record { number = 0; count = length (delivery ls) }) (delivery ls ++ drop (length (delivery ls)) lent) ≡ encode-delivery (lend numbers ends) lent
         unfolding encode-delivery sent lists-of over
         writes h = rw (seven, ten, eleven, le-leb (length (delivery ls)) (length lent) h)
 

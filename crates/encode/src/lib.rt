@@ -4,7 +4,7 @@ ghost use mathlib.Core.Path.{_≡_};
 ghost use mathlib.Core.Bool.{true};
 ghost use Prim.Native.Nat.{_+_, _-_, _*_, _^_, _≤_, _<_};
 ghost use lib.ListN.{length, getD, drop};
-ghost use Rattle.model.specs.Lists.{lists-from, ends-hold};
+ghost use Rattle.model.specs.Lists.{lists-from, ends-hold, lend};
 ghost use Rattle.model.specs.Delivery.{gap-bits, list-bits, lists-bits};
 ghost use Rattle.model.specs.Calls.{written, encode-delivery};
 ghost use Rattle.fields.specs.Positions.{put-bits};
@@ -150,7 +150,7 @@ fn put_lists(s: &mut [u8], numbers: &[u32], ends: &[u32], widths: [u8; 32]) -> u
 
 // Writes a delivery of the lists into the lent bytes.
 pub fn encode_delivery(numbers: &[u32], ends: &[u32], bytes: &mut [u8]) -> WriteResult
-    ensures { λ r. ⌜ written r (now (bytes .exit)) ≡ encode-delivery (now (numbers .entry)) (now (ends .entry)) (now (bytes .entry)) ⌝ }
+    ensures { λ r. ⌜ written r (now (bytes .exit)) ≡ encode-delivery (lend (now (numbers .entry)) (now (ends .entry))) (now (bytes .entry)) ⌝ }
 {
     if !lists::count_holds(ends.len()) {
         return WriteResult::refused(7);

@@ -9,7 +9,7 @@ use Rattle.model.specs.declared.Reply.{Reply}
 use Rattle.model.specs.Outcome.{Sent}
 use Rattle.model.specs.Expression.{Tree}
 use Rattle.model.specs.Machine.{Call, call, calls, encode}
-use Rattle.model.specs.Run.{State, step, steps, begin, run}
+use Rattle.model.specs.Run.{State, step, steps, starting, begin, run}
 use Rattle.model.specs.Calls.{run-parts}
 use Rattle.model.specs.Demands.{ran-all}
 use Rattle.fields.specs.Rows.{lay}
@@ -18,7 +18,7 @@ use Rattle.lists.proofs.Left.{left-cons}
 
 -- a last state and a reply row, as they are sent back
 abbrev handed : State → List ℕ → Sent
-handed s row = record { number = 0; parts = run-parts (s .readers .moves) (s .readers .places) (s .floor); rows = row ∷ [] }
+handed s row = record { number = 0; parts = run-parts (s .readers .moves) (s .readers .places) (starting (s .floor)); rows = row ∷ [] }
 
 -- the calls that are left, from a state, into the reply row from i on
 unfoldable pub sends : List (List ℕ) → Tree → State → List Call → List ℕ → ℕ → Sent
@@ -28,9 +28,9 @@ sends ls t s cs lent i =
 
 -- from the start
 pub sends-start : (ls : List (List ℕ)) (t : Tree) (bookmark : ℕ) (codes ds lent : List ℕ)
-    → sends ls t (record { floor = bookmark; readers = record { places = replicate 48 0; moves = 0 } }) (calls codes ds) lent 0 ≡ ran-all (run ls t bookmark (calls codes ds)) lent
+    → sends ls t (record { floor = bookmark; readers = record { places = replicate 48 0; moves = 0 } }) (calls codes ds) lent 0 ≡ ran-all (run ls t (starting bookmark) (calls codes ds)) lent
 unfolding sends run begin lay
-sends-start ls t bookmark codes ds lent = let rs = steps ls t (begin bookmark) (calls codes ds) .0 in rw (zero-add (length (map encode rs)), length-map rs encode)
+sends-start ls t bookmark codes ds lent = let rs = steps ls t (begin (starting bookmark)) (calls codes ds) .0 in rw (zero-add (length (map encode rs)), length-map rs encode)
 
 -- behind the last call
 pub sends-none : (ls : List (List ℕ)) (t : Tree) (s : State) (codes ds lent : List ℕ) (i : ℕ) → length codes ≤ i

@@ -6,11 +6,11 @@ use Prim.Native.Nat.{ℕ, _≤_, _<_}
 use lib.ListN.{length, length-map}
 use borrow.Author.Tests.{le-leb, lt-leb, eq-eqb, ne-eqb}
 use Rattle.model.specs.Outcome.{Outcome, refused, accepted, number-of, Sent, over, sent}
-use Rattle.model.specs.Lists.{top, lists-from, lists-of}
+use Rattle.model.specs.Lists.{top, Lent, lists-of}
 use Rattle.model.specs.Expression.{Tree}
 use Rattle.model.specs.Forms.{read-packed}
 use Rattle.model.specs.Machine.{calls, encode}
-use Rattle.model.specs.Run.{run, source-of, run-of}
+use Rattle.model.specs.Run.{Start, Low, run, source-of, run-of}
 use Rattle.model.specs.Calls.{ran, ran-refused, run-call}
 use Rattle.model.specs.Demands.{ran-all}
 use Rattle.model.proofs.Accepted.{lists-accepted, packed-reads}
@@ -39,44 +39,46 @@ read-number (refused n) e = rw e
 read-number (accepted t) e = rw e
 
 -- the tree that was read stands in its row
-pub read-stands : (numbers ends packed : List ℕ) {r : Expression} (t : Tree) → number-of (lists-of numbers ends) ≡ 0 → read-packed (length ends) packed ≡ accepted t
-    → r ≡ expression-of (read-packed (length ends) packed) → Stands (length ends) (r .nodes) t 0
+pub read-stands : (lists : ℕ) (packed : List ℕ) {r : Expression} (t : Tree) → lists ≤ 32 → read-packed lists packed ≡ accepted t
+    → r ≡ expression-of (read-packed lists packed) → Stands lists (r .nodes) t 0
 unfolding expression-of
-read-stands numbers ends packed t h e f =
-    let few = counts (length ends) (lists-accepted numbers ends (lists-from numbers 0 ends) (passed numbers ends h) .count) .1 in
-    rw (f ∙ ap expression-of e) (row-stands (length ends) t few (packed-reads (length ends) packed t e))
+read-stands lists packed t few e f = rw (f ∙ ap expression-of e) (row-stands lists t few (packed-reads lists packed t e))
+
+-- of accepted lists there are at most 32
+pub lists-few : (l : Lent) → number-of (lists-of l) ≡ 0 → length (l .ends) ≤ 32
+lists-few l h = counts (length (l .ends)) (lists-accepted l _ (passed l h) .count) .1
 
 -- ---- the tests, in the definition's order
 
-module _ (numbers ends packed : List ℕ) (bookmark : ℕ) (codes ds lent : List ℕ) where
+module _ (l : Lent) (packed : List ℕ) (start : Start) (codes ds lent : List ℕ) where
   abbrev back : Sent
-  back = run-call numbers ends packed bookmark codes ds lent
+  back = run-call l packed start codes ds lent
 
-  pub refuses-lists : (n : ℕ) → lists-of numbers ends ≡ refused n → ran (ran-refused n) lent ≡ back
+  pub refuses-lists : (n : ℕ) → lists-of l ≡ refused n → ran (ran-refused n) lent ≡ back
   unfolding run-call run-of source-of sent
   refuses-lists n e = rw e
 
-  module _ (ls : List (List ℕ)) (e : lists-of numbers ends ≡ accepted ls) where
-    pub refuses-expression : (n : ℕ) → read-packed (length ends) packed ≡ refused n → ran (ran-refused n) lent ≡ back
+  module _ (ls : List (List ℕ)) (e : lists-of l ≡ accepted ls) where
+    pub refuses-expression : (n : ℕ) → read-packed (length (l .ends)) packed ≡ refused n → ran (ran-refused n) lent ≡ back
     unfolding run-call run-of source-of sent
     refuses-expression n f = rw (e, f)
 
-    module _ (t : Tree) (f : read-packed (length ends) packed ≡ accepted t) where
-      pub refuses-bookmark : top < bookmark → ran (ran-refused 12) lent ≡ back
+    module _ (t : Tree) (f : read-packed (length (l .ends)) packed ≡ accepted t) where
+      pub refuses-bookmark : top < start .bookmark → ran (ran-refused 12) lent ≡ back
       unfolding run-call run-of source-of sent
-      refuses-bookmark h = rw (e, f, lt-leb bookmark top h)
+      refuses-bookmark h = rw (e, f, lt-leb (start .bookmark) top h)
 
-      module _ (low : bookmark ≤ top) where
+      module _ (low : Low start) where
         pub refuses-unpaired : (length codes ≡ length ds → ⊥) → ran (ran-refused 13) lent ≡ back
         unfolding run-call run-of source-of sent
-        refuses-unpaired h = rw (e, f, le-leb bookmark top low, ne-eqb (length codes) (length ds) h)
+        refuses-unpaired h = rw (e, f, le-leb (start .bookmark) top low, ne-eqb (length codes) (length ds) h)
 
         module _ (paired : length codes ≡ length ds) where
           pub refuses-short : length lent < length codes → ran (ran-refused 13) lent ≡ back
           unfolding run-call run-of source-of sent
-          refuses-short h = rw (e, f, le-leb bookmark top low, eq-eqb (length codes) (length ds) paired, lt-leb (length codes) (length lent) h)
+          refuses-short h = rw (e, f, le-leb (start .bookmark) top low, eq-eqb (length codes) (length ds) paired, lt-leb (length codes) (length lent) h)
 
-          pub accepts : length codes ≤ length lent → ran-all (run ls t bookmark (calls codes ds)) lent ≡ back
+          pub accepts : length codes ≤ length lent → ran-all (run ls t start (calls codes ds)) lent ≡ back
           unfolding run-call run-of source-of sent over
           accepts h =
-              rw (e, f, le-leb bookmark top low, eq-eqb (length codes) (length ds) paired, le-leb (length codes) (length lent) h, length-map (run ls t bookmark (calls codes ds) .replies) encode)
+              rw (e, f, le-leb (start .bookmark) top low, eq-eqb (length codes) (length ds) paired, le-leb (length codes) (length lent) h, length-map (run ls t start (calls codes ds) .replies) encode)

@@ -8,7 +8,7 @@ use Rattle.model.specs.Outcome.{Sent}
 use Rattle.model.specs.Lists.{lists-from}
 use Rattle.model.specs.Expression.{Tree}
 use Rattle.model.specs.Machine.{calls}
-use Rattle.model.specs.Run.{State, run}
+use Rattle.model.specs.Run.{State, Start, run}
 use Rattle.model.specs.Demands.{ran-all}
 use Rattle.reader.specs.declared.Readers.{Readers}
 use Rattle.reader.specs.Rows.{Stands}
@@ -32,5 +32,5 @@ abbrev pub Steps-to : (numbers ends nodes : List ℕ) → (List (List ℕ) → T
 Steps-to numbers ends nodes of r = (t : Tree) → Stands (length ends) nodes t 0 → stepped-of r ≡ of (lists-from numbers 0 ends) t
 
 -- what a run that has passed its tests sends back: `Run.run`, over the reply row that it was lent
-abbrev pub Answers : (numbers ends nodes : List ℕ) → ℕ → (codes ds lent : List ℕ) → Sent → Type 0
-Answers numbers ends nodes bookmark codes ds lent back = (t : Tree) → Stands (length ends) nodes t 0 → back ≡ ran-all (run (lists-from numbers 0 ends) t bookmark (calls codes ds)) lent
+abbrev pub Answers : (numbers ends nodes : List ℕ) → Start → (codes ds lent : List ℕ) → Sent → Type 0
+Answers numbers ends nodes start codes ds lent back = (t : Tree) → Stands (length ends) nodes t 0 → back ≡ ran-all (run (lists-from numbers 0 ends) t start (calls codes ds)) lent

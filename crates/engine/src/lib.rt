@@ -6,11 +6,11 @@ ghost use Prim.Native.Nat.{_≤_, _<_, max};
 ghost use lib.Dec.{leb, eqb};
 ghost use lib.ListN.{length};
 ghost use Rattle.model.specs.declared.Reply.the-variants.{Yes, No, Unknown};
-ghost use Rattle.model.specs.Lists.{top};
+ghost use Rattle.model.specs.Lists.{top, lend};
 ghost use Rattle.model.specs.Machine.{encode as encoded};
 ghost use Rattle.model.specs.Steps as model;
 ghost use Rattle.model.specs.Steps.{seek as seek-tree};
-ghost use Rattle.model.specs.Run.{drawn};
+ghost use Rattle.model.specs.Run.{drawn, starting};
 ghost use Rattle.model.specs.Calls.{ran, run-call};
 ghost use Rattle.model.specs.Demands.{Third-demand-met};
 ghost use Rattle.reader.specs.Rows.{Standing, Ready};
@@ -166,7 +166,7 @@ fn answer(
     requires { ⌜ Standing (length (now ends)) (now nodes) 0 ⌝ }
     requires { ⌜ bookmark ≤ top ⌝ }
     requires { ⌜ (length (now codes) ≡ length (now arguments)) × (length (now codes) ≤ length (now replies)) ⌝ }
-    ensures { λ r. ⌜ Answers (now (numbers .entry)) (now (ends .entry)) (now (nodes .entry)) bookmark (now (codes .entry)) (now (arguments .entry)) (now (replies .entry)) (ran r (now (replies .exit))) ⌝ }
+    ensures { λ r. ⌜ Answers (now (numbers .entry)) (now (ends .entry)) (now (nodes .entry)) (starting bookmark) (now (codes .entry)) (now (arguments .entry)) (now (replies .entry)) (ran r (now (replies .exit))) ⌝ }
 {
     let mut readers = Readers {
         places: [0u16; 48],
@@ -221,8 +221,8 @@ pub fn run(
     arguments: &[u32],
     replies: &mut [u64],
 ) -> RunResult
-    ensures call { λ r. ⌜ ran r (now (replies .exit)) ≡ run-call (now (numbers .entry)) (now (ends .entry)) (now (packed .entry)) bookmark (now (codes .entry)) (now (arguments .entry)) (now (replies .entry)) ⌝ }
-    ensures demand { λ r. ⌜ Third-demand-met (now (numbers .entry)) (now (ends .entry)) (now (packed .entry)) bookmark (now (codes .entry)) (now (arguments .entry)) (now (replies .entry)) (ran r (now (replies .exit))) ⌝ }
+    ensures call { λ r. ⌜ ran r (now (replies .exit)) ≡ run-call (lend (now (numbers .entry)) (now (ends .entry))) (now (packed .entry)) (starting bookmark) (now (codes .entry)) (now (arguments .entry)) (now (replies .entry)) ⌝ }
+    ensures demand { λ r. ⌜ Third-demand-met (lend (now (numbers .entry)) (now (ends .entry))) (now (packed .entry)) (starting bookmark) (now (codes .entry)) (now (arguments .entry)) (now (replies .entry)) (ran r (now (replies .exit))) ⌝ }
 {
     let number = lists::test_lists(numbers, ends);
     if number != 0 {

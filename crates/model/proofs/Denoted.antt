@@ -11,7 +11,7 @@ use lib.ListN.{length, getD}
 use Rattle.model.specs.Lists.{top, rises, ascending}
 use Rattle.model.specs.Expression.{Tree, leaf, difference, union, intersection, Members, one, more}
 use Rattle.model.specs.Sets.{among, member, member-some, member-all, all-numbers, insert, select, members}
-use Rattle.model.proofs.Order.{or-right, and-right, and-true, or-true, not-both, Up, up-low, up-none}
+use Rattle.model.proofs.Order.{or-right, and-right, and-true, or-true, not-both, Up, up-none}
 
 -- ---- where a member stands
 

@@ -14,7 +14,7 @@ use Rattle.model.specs.declared.Reply.the-variants.{Member, Finished, Ye
 use Rattle.model.specs.Lists.{top}
 use Rattle.model.specs.Sets.{among}
 use Rattle.model.specs.Machine.{Call, next, at-or-past, past, check, other, draw, reply, machine}
-use Rattle.model.proofs.Order.{or-right, not-both, split, Up, up-none}
+use Rattle.model.proofs.Order.{not-both, split, Up, up-none}
 use Rattle.model.proofs.Denoted.{from, from-up, from-among}
 
 -- ---- the least member not below the floor

@@ -6,7 +6,7 @@ use Prim.Native.Nat.{ℕ, suc, _+_, _-_, _^_, _≤_, _<_}
 use lib.Dec.{leb}
 use lib.ListN.{length, getD, take, drop, replicate}
 use Rattle.model.specs.declared.Reply.the-variants.{Member, Finished}
-use Rattle.model.specs.Outcome.{Outcome, accepted, Sent}
+use Rattle.model.specs.Outcome.{accepted, Sent}
 use Rattle.model.specs.Lists.{Numbers, ascending, Lent, lend, lists-of}
 use Rattle.model.specs.Expression.{Tree, leaf, difference, union, intersection, Members, one, more, size, depth, count}
 use Rattle.model.specs.Sets.{among, member, all-numbers, members}

@@ -12,8 +12,8 @@ use Rattle.model.specs.Expression.{Tree, difference, union, intersection, Membe
 use Rattle.model.specs.Forms.{node-of}
 use Rattle.model.specs.Steps.{Readers, Found, Seek, read, seek}
 use Rattle.model.proofs.Order.{Up}
-use Rattle.lists.proofs.Spans.{readable-up}
 use Rattle.model.proofs.Fuel.{differ-with, intersect-with, seek-difference}
+use Rattle.lists.proofs.Spans.{readable-up}
 use Rattle.expression.specs.Reading.{members}
 use Rattle.reader.specs.Rows.{Stands, Behind, Ready}
 use Rattle.reader.specs.Sought.{found}

@@ -2,7 +2,8 @@
 // behind it promises. A slice is a pointer and a length to C; include/zwailmoor.h declares the same functions. No function keeps
 // anything between calls, and none calls C.
 ghost use mathlib.Core.Path.{_≡_};
-ghost use Rattle.model.specs.Lists.{span-of};
+ghost use Rattle.model.specs.Lists.{lend, span-of};
+ghost use Rattle.model.specs.Run.{starting};
 ghost use Rattle.model.specs.Calls.{written, delivered, ran, unpack-expression, pack-expression, decode-delivery, encode-delivery, run-call};
 ghost use Rattle.model.specs.Demands.{Third-demand-met};
 ghost use Rattle.lists.specs.Span.{span-says};
@@ -54,7 +55,7 @@ pub extern "C" fn zwailmoor_encode_delivery(
     ends: &[u32],
     bytes: &mut [u8],
 ) -> WriteResult
-    ensures { λ r. ⌜ written r (now (bytes .exit)) ≡ encode-delivery (now (numbers .entry)) (now (ends .entry)) (now (bytes .entry)) ⌝ }
+    ensures { λ r. ⌜ written r (now (bytes .exit)) ≡ encode-delivery (lend (now (numbers .entry)) (now (ends .entry))) (now (bytes .entry)) ⌝ }
 {
     encode::encode_delivery(numbers, ends, bytes)
 }
@@ -62,7 +63,7 @@ pub extern "C" fn zwailmoor_encode_delivery(
 // Where the part of list k stands in the numbers, and its length: C has no slice to hand back.
 #[no_mangle]
 pub extern "C" fn zwailmoor_list_span(numbers: &[u32], ends: &[u32], k: usize) -> Span
-    ensures { λ r. ⌜ span-says r ≡ span-of (now (numbers .entry)) (now (ends .entry)) k ⌝ }
+    ensures { λ r. ⌜ span-says r ≡ span-of (lend (now (numbers .entry)) (now (ends .entry))) k ⌝ }
 {
     lists::list_span(numbers, ends, k)
 }
@@ -78,8 +79,8 @@ pub extern "C" fn zwailmoor_run(
     arguments: &[u32],
     replies: &mut [u64],
 ) -> RunResult
-    ensures call { λ r. ⌜ ran r (now (replies .exit)) ≡ run-call (now (numbers .entry)) (now (ends .entry)) (now (packed .entry)) bookmark (now (codes .entry)) (now (arguments .entry)) (now (replies .entry)) ⌝ }
-    ensures demand { λ r. ⌜ Third-demand-met (now (numbers .entry)) (now (ends .entry)) (now (packed .entry)) bookmark (now (codes .entry)) (now (arguments .entry)) (now (replies .entry)) (ran r (now (replies .exit))) ⌝ }
+    ensures call { λ r. ⌜ ran r (now (replies .exit)) ≡ run-call (lend (now (numbers .entry)) (now (ends .entry))) (now (packed .entry)) (starting bookmark) (now (codes .entry)) (now (arguments .entry)) (now (replies .entry)) ⌝ }
+    ensures demand { λ r. ⌜ Third-demand-met (lend (now (numbers .entry)) (now (ends .entry))) (now (packed .entry)) (starting bookmark) (now (codes .entry)) (now (arguments .entry)) (now (replies .entry)) (ran r (now (replies .exit))) ⌝ }
 {
     engine::run(numbers, ends, packed, bookmark, codes, arguments, replies)
 }

@@ -11,7 +11,7 @@ use Rattle.model.specs.Lists.{top, lists-from}
 use Rattle.model.specs.Expression.{Tree}
 use Rattle.model.specs.declared.Reply.{Reply}
 use Rattle.model.specs.Machine.{call, calls, encode}
-use Rattle.model.specs.Run.{State, step, run}
+use Rattle.model.specs.Run.{State, step, starting, run}
 use Rattle.model.specs.Demands.{ran-all}
 use Rattle.reader.specs.declared.Readers.{Readers}
 use Rattle.reader.specs.Rows.{Stands}
@@ -27,7 +27,7 @@ abbrev Inv-loop : tie.InvT-loop
 Inv-loop numbers ends nodes behind bookmark codes ds replies₀ readers₀ floor₀ i₀ replies readers floor i =
     (floor ≤ top) × Tallied readers × (length replies ≡ length replies₀)
     × ((t : Tree) → Stands (length ends) nodes t 0
-    → sends (lists-from numbers 0 ends) t (state-of floor readers) (calls (drop i codes) (drop i ds)) replies i ≡ ran-all (run (lists-from numbers 0 ends) t bookmark (calls codes ds)) replies₀)
+    → sends (lists-from numbers 0 ends) t (state-of floor readers) (calls (drop i codes) (drop i ds)) replies i ≡ ran-all (run (lists-from numbers 0 ends) t (starting bookmark) (calls codes ds)) replies₀)
 
 abbrev μ-loop : tie.MeasureT-loop
 μ-loop numbers ends nodes behind bookmark codes ds replies₀ readers₀ floor₀ i₀ replies readers floor i = length codes - i

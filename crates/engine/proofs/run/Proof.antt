@@ -7,23 +7,28 @@ use borrow.Author.Needs.{needs}
 use lib.ListN.{length}
 use Rattle.model.specs.declared.RunResult.{RunResult}
 use Rattle.model.specs.Outcome.{number-of, Sent}
-use Rattle.model.specs.Lists.{lists-of}
+use Rattle.model.specs.Lists.{Lent, lend, lists-of}
+use Rattle.model.specs.Run.{starting}
 use Rattle.model.specs.Forms.{read-packed}
 use Rattle.model.specs.Calls.{ran, ran-refused, run-call}
 use Rattle.model.specs.Demands.{Third-demand-met}
 use Rattle.model.proofs.DemandThree.{third}
 use Rattle.model.proofs.Told.{Success-of}
-use Rattle.lists.proofs.Spans.{passed as lists-passed}
+use Rattle.lists.proofs.Spans.{readable, passed as lists-passed}
 use Rattle.reader.specs.Rows.{Stands}
-use Rattle.engine.proofs.Whole.{refused-by, expression-passes, read-number, read-stands, refuses-lists, refuses-expression, refuses-bookmark, refuses-unpaired, refuses-short, accepts}
+use Rattle.engine.proofs.Whole.{refused-by, expression-passes, read-number, read-stands, lists-few, refuses-lists, refuses-expression, refuses-bookmark, refuses-unpaired, refuses-short, accepts}
 use Rattle.engine.proofs.run.Statement.{statement}
 use Rattle.engine.proofs.run.Tie as tie
 
 abbrev entry : tie.After-test-lists → tie.Start
 entry c = c .before .before .before .before .before .before .before
 
+-- what was lent
+abbrev lent : tie.After-test-lists → Lent
+lent c = let args = entry c .args in lend (args .numbers .now) (args .ends .now)
+
 -- the lists pass their tests
-pass : (c : tie.Else1) → let args = entry (c .before) .args in number-of (lists-of (args .numbers .now) (args .ends .now)) ≡ 0
+pass : (c : tie.Else1) → number-of (lists-of (lent (c .before))) ≡ 0
 pass c = sym (c .before .test-lists .ensures) ∙ c .if1 .left
 
 -- a tree was read
@@ -38,21 +43,21 @@ stands : (c : tie.Else2) → let args = entry (c .before .before .before .before
 stands c =
     let e = c .before .before in
     let args = entry (e .before .before) .args in
-    read-stands (args .numbers .now) (args .ends .now) (args .packed .now) (read c .got) (pass (e .before)) (read c .is) (e .read-expression .ensures)
+    read-stands (length (args .ends .now)) (args .packed .now) (read c .got) (lists-few (lent (e .before .before)) (pass (e .before))) (read c .is) (e .read-expression .ensures)
 
 -- a refusal handed back
-handed : (lent : List ℕ) {r : RunResult} {n : ℕ} → r ≡ ran-refused n → ran r lent ≡ ran (ran-refused n) lent
-handed lent e = ap (λ (x : RunResult). ran x lent) e
+handed : (row : List ℕ) {r : RunResult} {n : ℕ} → r ≡ ran-refused n → ran r row ≡ ran (ran-refused n) row
+handed row e = ap (λ (x : RunResult). ran x row) e
 
 -- the call is the definition's, and what is sent back meets demand 3
 met : (c : tie.After-test-lists) (back : Sent) → let args = entry c .args in
-    back ≡ run-call (args .numbers .now) (args .ends .now) (args .packed .now) (args .bookmark) (args .codes .now) (args .arguments .now) (args .replies .now)
-    → (back ≡ run-call (args .numbers .now) (args .ends .now) (args .packed .now) (args .bookmark) (args .codes .now) (args .arguments .now) (args .replies .now))
-    × Third-demand-met (args .numbers .now) (args .ends .now) (args .packed .now) (args .bookmark) (args .codes .now) (args .arguments .now) (args .replies .now) back
+    back ≡ run-call (lent c) (args .packed .now) (starting (args .bookmark)) (args .codes .now) (args .arguments .now) (args .replies .now)
+    → (back ≡ run-call (lent c) (args .packed .now) (starting (args .bookmark)) (args .codes .now) (args .arguments .now) (args .replies .now))
+    × Third-demand-met (lent c) (args .packed .now) (starting (args .bookmark)) (args .codes .now) (args .arguments .now) (args .replies .now) back
 met c back e =
     let args = entry c .args in (
       e,
-      rw e (third (args .numbers .now) (args .ends .now) (args .packed .now) (args .bookmark) (args .codes .now) (args .arguments .now) (args .replies .now)
+      rw e (third (lent c) (args .packed .now) (starting (args .bookmark)) (args .codes .now) (args .arguments .now) (args .replies .now)
           (λ i. c .before .before .before .before .before .before .shared-slice-known .given i .fits) (λ i. c .before .before .shared-slice-known5 .given i .fits)),
     )
 
@@ -69,7 +74,7 @@ returns c =
     let n = tested .test-lists .ensures in
     met tested _ (
     handed (args .replies .now) (c .refused .ensures ∙ ap ran-refused n)
-    ∙ refuses-lists _ _ _ _ _ _ _ _ (refused-by (lists-of (args .numbers .now) (args .ends .now)) (λ z. c .before .if1 .taken (n ∙ z))))
+    ∙ refuses-lists _ _ _ _ _ _ _ (refused-by (lists-of (lent tested)) (λ z. c .before .if1 .taken (n ∙ z))))
 
 read-expression-requires : tie.Need-read-expression-requires
 read-expression-requires c κs = search needs
@@ -84,7 +89,7 @@ returns-2 c =
     let n = read-number _ (e .read-expression .ensures) in
     met (e .before .before) _ (
     handed (args .replies .now) (c .refused2 .ensures ∙ ap ran-refused n)
-    ∙ refuses-expression _ _ _ _ _ _ _ _ (lists-passed _ _ (pass (e .before))) _ (refused-by (read-packed (length (args .ends .now)) (args .packed .now)) (λ z. c .before .if2 .taken (n ∙ z))))
+    ∙ refuses-expression _ _ _ _ _ _ _ (lists-passed _ (pass (e .before))) _ (refused-by (read-packed (length (args .ends .now)) (args .packed .now)) (λ z. c .before .if2 .taken (n ∙ z))))
 
 refused-requires-3 : tie.Need-refused-requires-3
 refused-requires-3 c κs = search needs
@@ -95,7 +100,7 @@ returns-3 c =
     let tested = e .before .before .before .before in
     met tested _ (
     handed (entry tested .args .replies .now) (c .refused3 .ensures)
-    ∙ refuses-bookmark _ _ _ _ _ _ _ _ (lists-passed _ _ (pass (e .before .before .before))) _ (read e .is) (c .before .if3 .taken))
+    ∙ refuses-bookmark _ _ _ _ _ _ _ (lists-passed _ (pass (e .before .before .before))) _ (read e .is) (c .before .if3 .taken))
 
 refused-requires-4 : tie.Need-refused-requires-4
 refused-requires-4 c κs = search needs
@@ -106,7 +111,7 @@ returns-4 c =
     let tested = e .before .before .before .before in
     met tested _ (
     handed (entry tested .args .replies .now) (c .refused4 .ensures)
-    ∙ refuses-unpaired _ _ _ _ _ _ _ _ (lists-passed _ _ (pass (e .before .before .before))) _ (read e .is) (c .before .before .if3 .left) (c .before .if4 .taken))
+    ∙ refuses-unpaired _ _ _ _ _ _ _ (lists-passed _ (pass (e .before .before .before))) _ (read e .is) (c .before .before .if3 .left) (c .before .if4 .taken))
 
 refused-requires-5 : tie.Need-refused-requires-5
 refused-requires-5 c κs = search needs
@@ -117,7 +122,7 @@ returns-5 c =
     let tested = e .before .before .before .before in
     met tested _ (
     handed (entry tested .args .replies .now) (c .refused5 .ensures)
-    ∙ refuses-short _ _ _ _ _ _ _ _ (lists-passed _ _ (pass (e .before .before .before))) _ (read e .is) (c .before .before .before .if3 .left) (c .before .before .if4 .left) (c .before .if5 .taken))
+    ∙ refuses-short _ _ _ _ _ _ _ (lists-passed _ (pass (e .before .before .before))) _ (read e .is) (c .before .before .before .if3 .left) (c .before .before .if4 .left) (c .before .if5 .taken))
 
 node-ends-requires : tie.Need-node-ends-requires
 node-ends-requires c κs = search needs
@@ -125,9 +130,8 @@ node-ends-requires c κs = search needs
 answer-requires : tie.Need-answer-requires
 answer-requires c κs =
     let fits = c .before .before .before .before .before .before in
-    let e = fits .before .before .before in
-    let args = entry (e .before .before .before .before) .args in (
-      record { lists = lists-passed (args .numbers .now) (args .ends .now) (pass (e .before .before .before)); table = c .before .before .before .node-ends .ensures },
+    let e = fits .before .before .before in (
+      record { lists = readable (lent (e .before .before .before .before)) _ (lists-passed _ (pass (e .before .before .before))); table = c .before .before .before .node-ends .ensures },
       (
         record { tree = read e .got; stands = stands e },
         (fits .before .before .if3 .left, (fits .before .if4 .left, fits .if5 .left)),
@@ -144,7 +148,7 @@ returns-6 c =
     let e = fits .before .before .before in
     met (e .before .before .before .before) _ (
     answered .answer .ensures (read e .got) (stands e)
-    ∙ accepts _ _ _ _ _ _ _ _ (lists-passed _ _ (pass (e .before .before .before))) _ (read e .is) (fits .before .before .if3 .left) (fits .before .if4 .left) (fits .if5 .left))
+    ∙ accepts _ _ _ _ _ _ _ (lists-passed _ (pass (e .before .before .before))) _ (read e .is) (fits .before .before .if3 .left) (fits .before .if4 .left) (fits .if5 .left))
 
 pub run-spec : {M : Type 1} → statement M
 run-spec =
