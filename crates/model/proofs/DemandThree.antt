@@ -15,7 +15,7 @@ use Rattle.model.specs.Expression.{size}
 use Rattle.model.specs.Sets.{members-from}
 use Rattle.model.specs.Machine.{Call, next, call, calls, machine, encode}
 use Rattle.model.specs.Run.{Result, run, begin, steps, Source, source-of, run-of}
-use Rattle.model.specs.Forms.{read-packed}
+use Rattle.model.specs.Forms.{there, read-packed}
 use Rattle.model.specs.Calls.{run-call}
 use Rattle.model.specs.Demands.{lengths, ran-all, Sound-run, Drawn, Broken, Demand-three, Third-demand, Third-demand-met}
 use Rattle.model.proofs.Order.{and-true, Up}
@@ -101,11 +101,11 @@ unfolding run-call sent over
 run-sends numbers ends expression bookmark codes ds lent r e = rw (e, length-map (r .replies) encode)
 
 pub source-accepted : (numbers ends expression : List ℕ) (s : Source) → source-of numbers ends expression ≡ accepted s
-    → (lists-of numbers ends ≡ accepted (s .lists)) × (read-packed (length ends) expression ≡ accepted (s .tree))
+    → (lists-of numbers ends ≡ accepted (s .lists)) × (read-packed (there (length ends)) expression ≡ accepted (s .tree))
 unfolding source-of
 source-accepted numbers ends expression s e =
     let a = bound (lists-of numbers ends) _ s e in
-    let b = bound (read-packed (length ends) expression) _ s (a .rest) in
+    let b = bound (read-packed (there (length ends)) expression) _ s (a .rest) in
     let q : record { lists = a .got; tree = b .got } ≡ s = cc (b .rest) in
     (rw (← q) (a .first), rw (← q) (b .first))
 
@@ -115,7 +115,7 @@ module _ (numbers ends expression : List ℕ) (n : Numbers numbers) (s : Source)
   up = accepted-up numbers ends (s .lists) n (source-accepted numbers ends expression s is .0)
 
   pub small : size (s .tree) ≤ 48
-  small = packed-reads (length ends) expression (s .tree) (source-accepted numbers ends expression s is .1) .nodes
+  small = packed-reads (there (length ends)) expression (s .tree) (source-accepted numbers ends expression s is .1) .nodes
 
   -- nothing but 12 and 13 can refuse a run over it
   accepts : (bookmark : ℕ) (codes ds : List ℕ) (room : ℕ) → bookmark ≤ top → length codes ≡ length ds → length codes ≤ room

@@ -12,7 +12,7 @@ use Rattle.model.specs.Lists.{count-holds, lists-of}
 use Rattle.model.specs.Expression.{Tree, leaf, difference, union, intersection, Members, one, more, size, sizes}
 use Rattle.model.specs.Machine.{Call, calls, encode}
 use Rattle.model.specs.Run.{State, step, steps, begin, Result, run, run-of}
-use Rattle.model.specs.Forms.{nodes, nodes-all, row-byte, row, packed, read-row, read-packed}
+use Rattle.model.specs.Forms.{nodes, nodes-all, row-byte, row, packed, there, read-row, read-packed}
 use Rattle.model.specs.Delivery.{delivery, read-delivery}
 use Rattle.model.specs.Calls.{unpack-expression, pack-expression, decode-delivery, encode-delivery, run-call}
 use Rattle.model.specs.Program.{listing, listed, list-members}
@@ -86,7 +86,7 @@ pub unpack-shape : (bytes : List ℕ) (lists : ℕ) (lent : List ℕ) → Shape 
 unfolding unpack-expression
 unpack-shape bytes lists lent = sent-shape 1 (lent ∷ []) _ (λ s e.
     let a = required 7 (count-holds lists) _ s e in
-    let b = bound (read-packed lists bytes) _ s (a .1) in
+    let b = bound (read-packed (there lists) bytes) _ s (a .1) in
     let c = required 6 (leb (size (b .got)) (length lent)) _ s (b .rest) in
     subst (Fits 1 (lent ∷ [])) (accepted-same (c .1)) (refl, (omega (arith, row-long (b .got), leb-true (size (b .got)) (length lent) (c .0)), tt)))
 
@@ -94,7 +94,7 @@ pub pack-shape : (bytes : List ℕ) (lists : ℕ) (lent : List ℕ) → Shape 1 
 unfolding pack-expression
 pack-shape bytes lists lent = sent-shape 1 (lent ∷ []) _ (λ s e.
     let a = required 7 (count-holds lists) _ s e in
-    let b = bound (read-row lists bytes) _ s (a .1) in
+    let b = bound (read-row (there lists) bytes) _ s (a .1) in
     let c = required 6 (leb (length (packed (b .got))) (length lent)) _ s (b .rest) in
     subst (Fits 1 (lent ∷ [])) (accepted-same (c .1)) (refl, (leb-true (length (packed (b .got))) (length lent) (c .0), tt)))
 
@@ -118,7 +118,7 @@ unfolding run
 run-fits numbers ends expression bookmark codes ds lent got r =
     let ls = r .source .lists in
     let t = r .source .tree in
-    let c = counted-run ls t (packed-reads (length ends) expression t (source-accepted numbers ends expression (r .source) (r .is-source) .1) .nodes) bookmark (calls codes ds) in
+    let c = counted-run ls t (packed-reads (there (length ends)) expression t (source-accepted numbers ends expression (r .source) (r .is-source) .1) .nodes) bookmark (calls codes ds) in
     let places = steps ls t (begin bookmark) (calls codes ds) .1 .readers .places in
     let last = steps ls t (begin bookmark) (calls codes ds) .1 .floor in
     subst (λ (g : Result). Fits 50 (lent ∷ []) (record { parts = g .moves ∷ (g .places ++ (g .bookmark ∷ [])); written = map encode (g .replies) ∷ [] })) (r .are) (

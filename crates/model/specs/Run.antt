@@ -11,7 +11,7 @@ use Rattle.model.specs.Lists.{top, lists-of}
 use Rattle.model.specs.Expression.{Tree}
 use Rattle.model.specs.Machine.{Call, next, at-or-past, past, check, other, calls}
 use Rattle.model.specs.Steps.{Readers, Found, end, at, Checked, says, seek, check-node}
-use Rattle.model.specs.Forms.{read-packed}
+use Rattle.model.specs.Forms.{there, read-packed}
 
 -- what one call leaves to the next: floor, places and moves
 pub record State : Type 0 where
@@ -67,7 +67,7 @@ pub record Source : Type 0 where
 unfoldable pub source-of : List ℕ → List ℕ → List ℕ → Outcome Source
 source-of numbers ends expression = do
   ls ← lists-of numbers ends
-  t ← read-packed (length ends) expression
+  t ← read-packed (there (length ends)) expression
   accepted (record { lists = ls; tree = t })
 
 -- "A run takes, in this order of checking: lists [..], the packed expression [..], bookmark (12), row lengths (13)";
