@@ -1,6 +1,6 @@
 -- A run whole: its tests one after another, each refusal by its own number. Number 0 is acceptance, since a refusal's number is
 -- never 0. Assumes nothing.
-use mathlib.Core.Path.{_≡_, refl, ap, _∙_}
+use mathlib.Core.Path.{_≡_, ap, _∙_}
 use mathlib.Core.List.{List}
 use Prim.Native.Nat.{ℕ, _≤_, _<_}
 use lib.ListN.{length, length-map}
@@ -8,13 +8,13 @@ use borrow.Author.Tests.{le-leb, lt-leb, eq-eqb, ne-eqb}
 use Rattle.model.specs.Outcome.{Outcome, refused, accepted, number-of, Sent, over, sent}
 use Rattle.model.specs.Lists.{top, Lent, lists-of}
 use Rattle.model.specs.Expression.{Tree}
-use Rattle.model.specs.Forms.{read-packed}
+use Rattle.model.specs.Forms.{there, read-packed}
 use Rattle.model.specs.Machine.{calls, encode}
-use Rattle.model.specs.Run.{Start, Low, run, source-of, run-of}
+use Rattle.model.specs.Run.{Start, Low, run, named-in, source-of, run-of}
 use Rattle.model.specs.Calls.{ran, ran-refused, run-call}
 use Rattle.model.specs.Demands.{ran-all}
-use Rattle.model.proofs.Accepted.{lists-accepted, packed-reads}
-use Rattle.model.proofs.Told.{Success-of, zero-accepts, packed-told}
+use Rattle.model.proofs.Accepted.{lists-accepted, there-is, packed-reads}
+use Rattle.model.proofs.Told.{Success-of, zero-accepts, there-told, packed-told}
 use Rattle.lists.proofs.Spans.{counts, passed}
 use Rattle.expression.specs.declared.Expression.{Expression}
 use Rattle.expression.specs.Reading.{expression-of}
@@ -23,13 +23,8 @@ use Rattle.reader.proofs.Laying.{row-stands}
 
 -- ---- an outcome by its number
 
-pub refused-by : {A : Type 0} (o : Outcome A) → (number-of o ≡ 0 → ⊥) → o ≡ refused (number-of o)
-unfolding number-of
-refused-by (refused n) h = refl
-refused-by (accepted a) h = absurd (h refl)
-
-pub expression-passes : (lists : ℕ) (packed : List ℕ) → number-of (read-packed lists packed) ≡ 0 → Success-of (read-packed lists packed)
-expression-passes lists packed e = zero-accepts (read-packed lists packed) (packed-told lists packed) e
+pub expression-passes : (lists : ℕ) (packed : List ℕ) → number-of (read-packed (there lists) packed) ≡ 0 → Success-of (read-packed (there lists) packed)
+expression-passes lists packed e = zero-accepts (read-packed (there lists) packed) (packed-told (there lists) (there-told lists) packed) e
 
 -- ---- what reading an expression hands back
 
@@ -39,10 +34,10 @@ read-number (refused n) e = rw e
 read-number (accepted t) e = rw e
 
 -- the tree that was read stands in its row
-pub read-stands : (lists : ℕ) (packed : List ℕ) {r : Expression} (t : Tree) → lists ≤ 32 → read-packed lists packed ≡ accepted t
-    → r ≡ expression-of (read-packed lists packed) → Stands lists (r .nodes) t 0
+pub read-stands : (lists : ℕ) (packed : List ℕ) {r : Expression} (t : Tree) → lists ≤ 32 → read-packed (there lists) packed ≡ accepted t
+    → r ≡ expression-of (read-packed (there lists) packed) → Stands lists (r .nodes) t 0
 unfolding expression-of
-read-stands lists packed t few e f = rw (f ∙ ap expression-of e) (row-stands lists t few (packed-reads lists packed t e))
+read-stands lists packed t few e f = rw (f ∙ ap expression-of e) (row-stands (there lists) lists t (there-is lists) few (packed-reads (there lists) packed t e))
 
 -- of accepted lists there are at most 32
 pub lists-few : (l : Lent) → number-of (lists-of l) ≡ 0 → length (l .ends) ≤ 32
@@ -59,11 +54,11 @@ module _ (l : Lent) (packed : List ℕ) (start : Start) (codes ds lent : List �
   refuses-lists n e = rw e
 
   module _ (ls : List (List ℕ)) (e : lists-of l ≡ accepted ls) where
-    pub refuses-expression : (n : ℕ) → read-packed (length (l .ends)) packed ≡ refused n → ran (ran-refused n) lent ≡ back
+    pub refuses-expression : (n : ℕ) → read-packed (named-in l) packed ≡ refused n → ran (ran-refused n) lent ≡ back
     unfolding run-call run-of source-of sent
     refuses-expression n f = rw (e, f)
 
-    module _ (t : Tree) (f : read-packed (length (l .ends)) packed ≡ accepted t) where
+    module _ (t : Tree) (f : read-packed (named-in l) packed ≡ accepted t) where
       pub refuses-bookmark : top < start .bookmark → ran (ran-refused 12) lent ≡ back
       unfolding run-call run-of source-of sent
       refuses-bookmark h = rw (e, f, lt-leb (start .bookmark) top h)

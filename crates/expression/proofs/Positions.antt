@@ -15,7 +15,7 @@ use Rattle.model.specs.declared.Node.the-variants.{Leaf, Difference, Union, Int
 use Rattle.model.specs.Outcome.{Outcome, refused, accepted, _>>=_, _>>_, require}
 use Rattle.model.specs.Expression.{Tree}
 use Rattle.model.specs.Fields.{bits, take-field, only-fill}
-use Rattle.model.specs.Forms.{nodes, row-byte, row, node-of, take-byte, take-rest, take-kind, take-node, read-row, read-packed}
+use Rattle.model.specs.Forms.{nodes, row-byte, row, node-of, take-byte, take-rest, take-kind, take-node, Leaf-test, read-row, read-packed}
 use Rattle.model.proofs.Order.{split}
 use Rattle.model.proofs.Accepted.{accepted-same, bound, required, Few, few-byte, few-packed}
 use Rattle.model.proofs.Sources.{seen, read-seen, node-seen, tree-seen}
@@ -112,12 +112,12 @@ module _ (s : List ℕ) where
       go false = refl
 
   -- the whole reading by position: one node is due, with all the depth left
-  pub read-by-position : (form : Form) (lists : ℕ)
-      → (read-form form lists s >>= λ t. accepted (row t)) ≡ levels lists (take-in form s) 12 (1 ∷ []) 0 0 (λ ns m p. require 5 (at-end form s p) >> accepted (map row-byte ns))
+  pub read-by-position : (form : Form) (test : Leaf-test)
+      → (read-form form test s >>= λ t. accepted (row t)) ≡ levels test (take-in form s) 12 (1 ∷ []) 0 0 (λ ns m p. require 5 (at-end form s p) >> accepted (map row-byte ns))
   unfolding read-packed read-row
-  read-by-position Packed lists =
-      finish bits-from only-fill _ _ (tree-seen bits-from lists (take-node (take-at s)) (take-node take-field) (node-seen bits-from (take-at s) take-field (taken-there s)) 12 0 0)
-      ∙ sym (whole lists (take-in Packed s) 12 0 0 _)
-  read-by-position Row lists =
-      finish bytes-from (λ rest. eqb (length rest) 0) _ _ (tree-seen bytes-from lists (byte-at s) take-byte byte-seen 12 0 0)
-      ∙ sym (whole lists (take-in Row s) 12 0 0 _)
+  read-by-position Packed test =
+      finish bits-from only-fill _ _ (tree-seen bits-from test (take-node (take-at s)) (take-node take-field) (node-seen bits-from (take-at s) take-field (taken-there s)) 12 0 0)
+      ∙ sym (whole test (take-in Packed s) 12 0 0 _)
+  read-by-position Row test =
+      finish bytes-from (λ rest. eqb (length rest) 0) _ _ (tree-seen bytes-from test (byte-at s) take-byte byte-seen 12 0 0)
+      ∙ sym (whole test (take-in Row s) 12 0 0 _)

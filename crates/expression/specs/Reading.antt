@@ -1,5 +1,5 @@
 -- Reading an expression in either stored form, by its position in the bytes.
-use mathlib.Core.Bool.{Bool, true}
+use mathlib.Core.Bool.{Bool}
 use mathlib.Core.List.{List, _++_}
 use Prim.Native.Nat.{ℕ, _+_, _-_}
 use lib.Dec.{ltb, eqb}
@@ -9,7 +9,7 @@ use Rattle.model.specs.declared.Node.the-variants.{Leaf, Difference, Union, Int
 use Rattle.model.specs.Outcome.{Outcome, refused, accepted, _>>=_, _>>_, require}
 use Rattle.model.specs.Expression.{Tree, size}
 use Rattle.model.specs.Fields.{bits, only-fill}
-use Rattle.model.specs.Forms.{row, node-of, take-node, read-row, read-packed}
+use Rattle.model.specs.Forms.{row, node-of, take-node, Leaf-test, read-row, read-packed}
 use Rattle.fields.specs.Positions.{take-at}
 use Rattle.expression.specs.declared.Form.{Form}
 use Rattle.expression.specs.declared.Form.the-variants.{Packed, Row}
@@ -41,12 +41,12 @@ abbrev pub take-in : Form → List ℕ → ℕ → Outcome (Node × ℕ)
 take-in Packed s p = take-node (take-at s) p
 take-in Row s p = byte-at s p
 
--- 4 does not apply: a list is one of so many
-abbrev pub named : ℕ → Node → Bool
-named lists (Leaf k) = ltb k lists
-named lists Difference = true
-named lists (Union n) = true
-named lists (Intersection n) = true
+-- a leaf's test, of any node
+abbrev pub named : Leaf-test → Node → Outcome (Unit {0})
+named test (Leaf k) = test k
+named test Difference = accepted tt
+named test (Union n) = accepted tt
+named test (Intersection n) = accepted tt
 
 -- how many member nodes follow a node
 abbrev pub members : Node → ℕ
@@ -61,9 +61,9 @@ at-end Packed s p = only-fill (drop p (bits s))
 at-end Row s p = eqb (length (drop p s)) 0
 
 -- an expression read in either form
-abbrev pub read-form : Form → ℕ → List ℕ → Outcome Tree
-read-form Packed lists s = read-packed lists s
-read-form Row lists s = read-row lists s
+abbrev pub read-form : Form → Leaf-test → List ℕ → Outcome Tree
+read-form Packed test s = read-packed test s
+read-form Row test s = read-row test s
 
 -- what is handed back: the number of a refusal and every other part 0, or the nodes' count and row bytes with 0 behind them
 unfoldable pub expression-of : Outcome Tree → Expression

@@ -5,7 +5,7 @@ ghost use mathlib.Core.Path.{_≡_};
 ghost use Prim.Native.Nat.{_*_, _^_, _≤_, _<_};
 ghost use lib.ListN.{length};
 ghost use Rattle.model.specs.Outcome.{refused as refusal, number-of};
-ghost use Rattle.model.specs.Forms.{row-byte, node-of, take-node};
+ghost use Rattle.model.specs.Forms.{row-byte, node-of, take-node, there};
 ghost use Rattle.fields.specs.Positions.{take-at};
 ghost use Rattle.expression.specs.Reading.{kind-says, step-says, byte-at, take-in, members, named, at-end, read-form, expression-of};
 use fields::Field;
@@ -145,15 +145,15 @@ pub fn wide(b: u8) -> usize
     b as usize
 }
 
-// Whether a node that is a list is one of so many.
-fn is_named(lists: usize, node: Node) -> bool
-    ensures { λ r. ⌜ r ≡ named lists node ⌝ }
+// The test of a leaf, of any node: the number of its refusal, 0 where there is none.
+fn test_leaf(lists: usize, node: Node) -> u32
+    ensures { λ r. ⌜ r ≡ number-of (named (there lists) node) ⌝ }
 {
     match node {
-        Node::Leaf(k) => wide(k) < lists,
-        Node::Difference => true,
-        Node::Union(_) => true,
-        Node::Intersection(_) => true,
+        Node::Leaf(k) => { if wide(k) < lists { 0 } else { 4 } }
+        Node::Difference => 0,
+        Node::Union(_) => 0,
+        Node::Intersection(_) => 0,
     }
 }
 
@@ -206,7 +206,7 @@ fn refused(number: u32) -> Expression
 
 // The expression in the bytes s, in either form, where there are so many lists.
 pub fn read_expression(form: Form, s: &[u8], lists: usize) -> Expression
-    ensures { λ r. ⌜ r ≡ expression-of (read-form form lists (now (s .entry))) ⌝ }
+    ensures { λ r. ⌜ r ≡ expression-of (read-form form (there lists) (now (s .entry))) ⌝ }
 {
     let mut nodes = [0u8; 48];
     // at each open level, how many member nodes are still to come; a list opens a level that has none
@@ -230,8 +230,9 @@ pub fn read_expression(form: Form, s: &[u8], lists: usize) -> Expression
             let Step::Node { node, next } = got else {
                 return refused(number_of(got));
             };
-            if !is_named(lists, node) {
-                return refused(4);
+            let number = test_leaf(lists, node);
+            if number != 0 {
+                return refused(number);
             }
             left[level] -= 1;
             left[depth] = members_of(node);

@@ -15,11 +15,11 @@ use Rattle.model.specs.declared.Node.the-variants.{Leaf, Difference, Union, Int
 use Rattle.model.specs.Outcome.{Outcome, refused, accepted}
 use Rattle.model.specs.Expression.{Tree, leaf, difference, union, intersection, Members, one, more}
 use Rattle.model.specs.Fields.{field, value}
-use Rattle.model.specs.Forms.{nodes, nodes-all, row-byte, row, packed-node, packed-nodes, node-of}
+use Rattle.model.specs.Forms.{nodes, nodes-all, row-byte, row, packed-node, packed-nodes, node-of, Leaf-test}
 use Rattle.model.specs.Demands.{Named, Named-all}
 use Rattle.model.proofs.Bits.{field-length, field-value}
 use Rattle.model.proofs.Order.{and-true}
-use Rattle.model.proofs.Accepted.{value-lt, accepted-same, never-accepted}
+use Rattle.model.proofs.Accepted.{never-accepted, accepted-same, Narrow, value-lt}
 use Rattle.model.proofs.Trees.{Writable, count-pos, byte-node}
 use Rattle.forms.specs.declared.Bits.{Bits}
 use Rattle.forms.specs.Packing.{said-bits, byte-bits, bits-of, row-bits}
@@ -90,17 +90,17 @@ all-append : (ms ns : List Node) → All ms → All ns → All (ms ++ ns)
 all-append [] ns h k = k
 all-append (m ∷ ms) ns h k = (h .0, all-append ms ns (h .1) k)
 
-module _ (lists : ℕ) (few : lists ≤ 32) where
+module _ (test : Leaf-test) (narrow : Narrow test) where
   mutual
     unfolding nodes
 
-    writable : (t : Tree) → Named lists t → All (nodes t)
-    writable (leaf k) h = (omega arith, tt)
+    writable : (t : Tree) → Named test t → All (nodes t)
+    writable (leaf k) h = (narrow k h, tt)
     writable (difference s t) h = (tt, all-append (nodes s) (nodes t) (writable s (h .0)) (writable t (h .1)))
     writable (union ts) h = ((count-pos ts, h .1), writable-all ts (h .0))
     writable (intersection ts) h = ((count-pos ts, h .1), writable-all ts (h .0))
 
-    writable-all : (ts : Members) → Named-all lists ts → All (nodes-all ts)
+    writable-all : (ts : Members) → Named-all test ts → All (nodes-all ts)
     writable-all (one t) h = writable t h
     writable-all (more t ts) h = all-append (nodes t) (nodes-all ts) (writable t (h .0)) (writable-all ts (h .1))
 
@@ -109,6 +109,6 @@ unfolding row-bits byte-bits said-bits packed-nodes
 nodes-packed [] h = refl
 nodes-packed (n ∷ ns) h = ap₂ (λ (b bs : List Bool). b ++ bs) (ap said-bits (byte-node n (h .0))) (nodes-packed ns (h .1))
 
-pub tree-packed : (lists : ℕ) (t : Tree) → lists ≤ 32 → Named lists t → row-bits (row t) ≡ packed-nodes (nodes t)
+pub tree-packed : (test : Leaf-test) (t : Tree) → Narrow test → Named test t → row-bits (row t) ≡ packed-nodes (nodes t)
 unfolding row
-tree-packed lists t few h = nodes-packed (nodes t) (writable lists few t h)
+tree-packed test t narrow h = nodes-packed (nodes t) (writable test narrow t h)

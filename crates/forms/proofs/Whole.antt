@@ -10,15 +10,15 @@ use native.Mathlib.Omega.{arith}
 use lib.Dec.{leb}
 use lib.ListN.{length, take, drop, replicate, length-append, length-replicate}
 use lib.Seq.{take-at}
-use borrow.Author.Tests.{le-leb, lt-leb, leb-true}
+use borrow.Author.Tests.{le-leb, lt-leb}
 use Rattle.model.specs.Outcome.{Outcome, refused, accepted, _>>=_, _>>_, require, number-of, Sent, over, sent}
 use Rattle.model.specs.Lists.{count-holds}
 use Rattle.model.specs.Expression.{Tree, size}
 use Rattle.model.specs.Fields.{Bytes, field, fill, bytes}
-use Rattle.model.specs.Forms.{nodes, row, packed, read-row, read-packed}
+use Rattle.model.specs.Forms.{nodes, row, packed, Leaf-test, there, read-row, read-packed}
 use Rattle.model.specs.Calls.{written-refused, written, unpack-expression, pack-expression}
 use Rattle.model.specs.Demands.{Expression}
-use Rattle.model.proofs.Order.{and-true}
+use Rattle.model.proofs.Accepted.{Narrow}
 use Rattle.model.proofs.Shape.{row-long}
 use Rattle.expression.specs.declared.Expression.{Expression as Read}
 use Rattle.expression.specs.Reading.{expression-of}
@@ -35,8 +35,8 @@ of-read form (accepted t) = form t
 -- ---- what reading hands back
 
 -- an expression, if any
-abbrev pub Holds : ℕ → Outcome Tree → Type 0
-Holds lists o = (t : Tree) → o ≡ accepted t → Expression lists t
+abbrev pub Holds : Leaf-test → Outcome Tree → Type 0
+Holds test o = (t : Tree) → o ≡ accepted t → Expression test t
 
 -- its number, and its nodes at the start of a row of 48
 pub record Handed (o : Outcome Tree) (r : Read) : Type 0 where
@@ -46,7 +46,7 @@ pub record Handed (o : Outcome Tree) (r : Read) : Type 0 where
   pub all : length (r .nodes) ≡ 48
   pub nodes : take (r .count) (r .nodes) ≡ of-read row o
 
-pub handed : {lists : ℕ} (o : Outcome Tree) {r : Read} → Holds lists o → r ≡ expression-of o → Handed o r
+pub handed : {test : Leaf-test} (o : Outcome Tree) {r : Read} → Holds test o → r ≡ expression-of o → Handed o r
 unfolding expression-of of-read number-of
 handed (refused n) h e = rw e (record { number = refl; count = refl; few = omega arith; all = refl; nodes = refl })
 handed (accepted t) h e =
@@ -88,7 +88,7 @@ module _ (s : List ℕ) (lists : ℕ) (lent : List ℕ) where
   unfolding unpack-expression sent
   unpack-wrong h = rw h
 
-  pub unpack-on : count-holds lists ≡ true → sends row size lent (read-packed lists s) ≡ unpack-expression s lists lent
+  pub unpack-on : count-holds lists ≡ true → sends row size lent (read-packed (there lists) s) ≡ unpack-expression s lists lent
   unfolding unpack-expression
   unpack-on h = rw h
 
@@ -96,17 +96,17 @@ module _ (s : List ℕ) (lists : ℕ) (lent : List ℕ) where
   unfolding pack-expression sent
   pack-wrong h = rw h
 
-  pub pack-on : count-holds lists ≡ true → sends packed (λ t. length (packed t)) lent (read-row lists s) ≡ pack-expression s lists lent
+  pub pack-on : count-holds lists ≡ true → sends packed (λ t. length (packed t)) lent (read-row (there lists) s) ≡ pack-expression s lists lent
   unfolding pack-expression
   pack-on h = rw h
 
 -- ---- packing what was read
 
 -- the packed form is the bytes of the bits of the row form
-pub packed-of : {lists : ℕ} (o : Outcome Tree) → Holds lists o → count-holds lists ≡ true → bytes (row-bits (of-read row o)) ≡ of-read packed o
-unfolding of-read packed bytes fill row-bits count-holds
-packed-of (refused n) h few = refl
-packed-of {lists} (accepted t) h few = ap bytes (tree-packed lists t (leb-true lists 32 (and-true (leb 1 lists) (leb lists 32) few .1)) (h t refl .named))
+pub packed-of : {test : Leaf-test} (o : Outcome Tree) → Holds test o → Narrow test → bytes (row-bits (of-read row o)) ≡ of-read packed o
+unfolding of-read packed bytes fill row-bits
+packed-of (refused n) h narrow = refl
+packed-of {test} (accepted t) h narrow = ap bytes (tree-packed test t narrow (h t refl .named))
 
 -- bits put from the start, and zero bits behind them up to a whole byte
 pub put-filled : (s : List ℕ) (bs : List Bool) (n : ℕ) → Bytes s → n ≡ length (bytes bs) → n ≤ length s

@@ -17,7 +17,7 @@ use Rattle.model.specs.Expression.{Tree}
 use Rattle.model.specs.Sets.{all-numbers, members-from}
 use Rattle.model.specs.Machine.{next}
 use Rattle.model.specs.Run.{steps, begin, run, Source, source-of}
-use Rattle.model.specs.Forms.{read-packed}
+use Rattle.model.specs.Forms.{there, read-packed}
 use Rattle.model.specs.Delivery.{read-delivery}
 use Rattle.model.specs.Calls.{counted, counted-refused, delivered, ends-from, decode-delivery}
 use Rattle.model.specs.Program.{halves, listing-of, listing, listed, list-members}
@@ -51,11 +51,11 @@ module _ (numbers ends packed lent : List ℕ) where
   abbrev ls : List (List ℕ)
   ls = lists-from numbers 0 ends
 
-  pub over-refuses : (n : ℕ) → read-packed (length ends) packed ≡ refused n → counted (counted-refused n) lent ≡ list-over ls packed lent
+  pub over-refuses : (n : ℕ) → read-packed (there (length ends)) packed ≡ refused n → counted (counted-refused n) lent ≡ list-over ls packed lent
   unfolding list-over sent
   over-refuses n e = rw (lists-length numbers 0 ends, e)
 
-  module _ (t : Tree) (f : read-packed (length ends) packed ≡ accepted t) where
+  module _ (t : Tree) (f : read-packed (there (length ends)) packed ≡ accepted t) where
     abbrev ms : List ℕ
     ms = members-from ls t 0
 
@@ -153,7 +153,7 @@ module _ (input lent : List ℕ) where
         -- behind the delivery
         pub goes-over : (ls : List (List ℕ)) → read-delivery 4096 32 (second-part input end) ≡ accepted ls → list-over ls (first-part input end) lent ≡ list-members input lent
         unfolding list-members listing list-over
-        goes-over ls f = rw (le-leb (length input) 65535 small, halves-are input end some e fits, f) (go (read-packed (length ls) (first-part input end)))
+        goes-over ls f = rw (le-leb (length input) 65535 small, halves-are input end some e fits, f) (go (read-packed (there (length ls)) (first-part input end)))
           where
             go : (o : Outcome Tree) → sent 2 (lent ∷ []) (o >>= λ t. listed lent (listing-of ls t)) ≡ sent 2 (lent ∷ []) ((o >>= λ t. accepted (listing-of ls t)) >>= listed lent)
             go (refused n) = refl

@@ -6,7 +6,7 @@ use lib.ListN.{length}
 use Rattle.model.specs.Outcome.{accepted, _>>=_, Sent, sent}
 use Rattle.model.specs.Lists.{lists-from, lists-of}
 use Rattle.model.specs.Sets.{all-numbers}
-use Rattle.model.specs.Forms.{read-packed}
+use Rattle.model.specs.Forms.{there, read-packed}
 use Rattle.model.specs.Program.{listing-of, listed}
 
 -- lists that were delivered: accepted, of at most 4,096 numbers in all
@@ -17,5 +17,5 @@ pub record Delivered-lists (numbers ends : List ℕ) : Type 0 where
 -- "then the expression"; then its members into the lent row
 unfoldable pub list-over : List (List ℕ) → List ℕ → List ℕ → Sent
 list-over ls packed lent = sent 2 (lent ∷ []) (do
-  t ← read-packed (length ls) packed
+  t ← read-packed (there (length ls)) packed
   listed lent (listing-of ls t))

@@ -6,7 +6,7 @@ use Prim.Native.Nat.{ℕ, zero, suc, _+_, _-_, _^_, _≤_, _<_}
 use native.Mathlib.Omega.{arith}
 use native.Mathlib.Nat.{pow-suc}
 use lib.Dec.{ltb, leb, eqb}
-use borrow.Author.Tests.{ltb-true, leb-true}
+use borrow.Author.Tests.{ltb-true, lt-ltb, leb-true}
 use lib.ListN.{getD, length, take, drop, length-take, List·getD-eq-default}
 use lib.Seq.{getD-take, getD-drop}
 use Rattle.model.specs.declared.Node.{Node}
@@ -15,7 +15,7 @@ use Rattle.model.specs.Outcome.{Outcome, refused, accepted, _>>=_, _>>_,
 use Rattle.model.specs.Lists.{top, Numbers, rises, ascending, all-ascending, part, lists-from, Lent, lists-of, count-holds, ends-hold}
 use Rattle.model.specs.Expression.{Tree, leaf, difference, union, intersection, Members, one, more, size, sizes, depth, depths, count}
 use Rattle.model.specs.Fields.{value, take-field, bits, only-fill}
-use Rattle.model.specs.Forms.{node-of, take-byte, take-rest, take-kind, take-node, read-members, operator, read-below, read-tree, read-row, read-packed}
+use Rattle.model.specs.Forms.{node-of, take-byte, take-rest, take-kind, take-node, Leaf-test, there, read-members, operator, read-below, read-tree, read-row, read-packed}
 use Rattle.model.specs.Demands.{Named, Named-all, Expression}
 use Rattle.model.proofs.Order.{and-true, split, Up}
 
@@ -38,9 +38,16 @@ bound (refused n) f b h = never-accepted h
 bound (accepted a) f b h = record { got = a; first = refl; rest = h }
 
 -- the test held, and the rest was accepted
+pub both : {B : Type 0} (t : Outcome (Unit {0})) (o : Outcome B) (b : B) → t >> o ≡ accepted b → (t ≡ accepted tt) × (o ≡ accepted b)
+both (refused n) o b h = never-accepted h
+both (accepted u) o b h = (refl, h)
+
+held : (n : ℕ) (t : Bool) → require n t ≡ accepted tt → t ≡ true
+held n true h = refl
+held n false h = never-accepted h
+
 pub required : {B : Type 0} (n : ℕ) (t : Bool) (o : Outcome B) (b : B) → require n t >> o ≡ accepted b → (t ≡ true) × (o ≡ accepted b)
-required n true o b h = (refl, h)
-required n false o b h = never-accepted h
+required n t o b h = let a = both (require n t) o b h in (held n t (a .0), a .1)
 
 -- two steps as one
 pub assoc : {A B C : Type 0} (o : Outcome A) (f : A → Outcome B) (g : B → Outcome C) (h : A → Outcome C) → ((a : A) → (f a >>= g) ≡ h a) → ((o >>= f) >>= g) ≡ (o >>= h)
@@ -92,18 +99,34 @@ accepted-up l ls n h k = let a = lists-accepted l ls h in rw (a .are) at (lists-
 
 -- ---- expressions
 
+-- a test that lets a leaf name list numbers of 5 bits only
+abbrev pub Narrow : Leaf-test → Type 0
+Narrow test = (k : ℕ) → test k ≡ accepted tt → k < 32
+
+-- the list numbers that are there
+pub there-is : (lists k : ℕ) → there lists k ≡ accepted tt → k < lists
+unfolding there
+there-is lists k h = ltb-true k lists (held 4 (ltb k lists) h)
+
+pub is-there : (lists k : ℕ) → k < lists → there lists k ≡ accepted tt
+unfolding there
+is-there lists k h = rw (lt-ltb k lists h)
+
+pub there-narrow : (lists : ℕ) → lists ≤ 32 → Narrow (there lists)
+there-narrow lists few k h = omega (arith, there-is lists k h)
+
 -- a tree that reads with so much depth left and so many nodes done: then so many are done
-record Read (lists d done : ℕ) (t : Tree) (after : ℕ) : Type 0 where
+record Read (test : Leaf-test) (d done : ℕ) (t : Tree) (after : ℕ) : Type 0 where
   counted : after ≡ done + size t
   nodes : after ≤ 48
   levels : depth t ≤ d
-  named : Named lists t
+  named : Named test t
 
-record Read-all (lists d done n : ℕ) (ts : Members) (after : ℕ) : Type 0 where
+record Read-all (test : Leaf-test) (d done n : ℕ) (ts : Members) (after : ℕ) : Type 0 where
   counted : after ≡ done + sizes ts
   nodes : after ≤ 48
   levels : depths ts ≤ d
-  named : Named-all lists ts
+  named : Named-all test ts
   many : count ts ≡ suc n
 
 -- an operator of 1 to 8 member nodes
@@ -113,12 +136,12 @@ Few Difference = Unit {0}
 Few (Union n) = (1 ≤ n) × (n ≤ 8)
 Few (Intersection n) = (1 ≤ n) × (n ≤ 8)
 
-module _ {S : Type 0} (lists : ℕ) (take-one : S → Outcome (Node × S)) (few : (s : S) (r : Node × S) → take-one s ≡ accepted r → Few (r .0)) where
+module _ {S : Type 0} (test : Leaf-test) (take-one : S → Outcome (Node × S)) (few : (s : S) (r : Node × S) → take-one s ≡ accepted r → Few (r .0)) where
   abbrev Reads : ℕ → (ℕ → S → Outcome (Tree × ℕ × S)) → Type 0
-  Reads d tree = (done : ℕ) (s : S) (r : Tree × ℕ × S) → tree done s ≡ accepted r → Read lists d done (r .0) (r .1)
+  Reads d tree = (done : ℕ) (s : S) (r : Tree × ℕ × S) → tree done s ≡ accepted r → Read test d done (r .0) (r .1)
 
   members-read : (d : ℕ) (tree : ℕ → S → Outcome (Tree × ℕ × S)) → Reads d tree → (n done : ℕ) (s : S) (r : Members × ℕ × S)
-      → read-members lists take-one tree n done s ≡ accepted r → Read-all lists d done n (r .0) (r .1)
+      → read-members test take-one tree n done s ≡ accepted r → Read-all test d done n (r .0) (r .1)
   unfolding read-members sizes depths count
   members-read d tree h zero done s r e =
       let a = bound (tree done s) _ r e in
@@ -128,7 +151,7 @@ module _ {S : Type 0} (lists : ℕ) (take-one : S → Outcome (Node × S)) (few 
   members-read d tree h (suc n) done s r e =
       let a = bound (tree done s) _ r e in
       let x = h done s (a .got) (a .first) in
-      let b = bound (read-members lists take-one tree n (a .got .1) (a .got .2)) _ r (a .rest) in
+      let b = bound (read-members test take-one tree n (a .got .1) (a .got .2)) _ r (a .rest) in
       let y = members-read d tree h n (a .got .1) (a .got .2) (b .got) (b .first) in
       let q : (more (a .got .0) (b .got .0), b .got .1, b .got .2) ≡ r = cc (b .rest) in
       rw (← q) (record {
@@ -141,12 +164,12 @@ module _ {S : Type 0} (lists : ℕ) (take-one : S → Outcome (Node × S)) (few 
 
   -- an operator over members that read, as `of` makes it
   operator-read : (d : ℕ) (tree : ℕ → S → Outcome (Tree × ℕ × S)) → Reads d tree → (of : Members → Tree)
-      → ((ts : Members) → size (of ts) ≡ 1 + sizes ts) → ((ts : Members) → depth (of ts) ≡ 1 + depths ts) → ((ts : Members) → Named-all lists ts → count ts ≤ 8 → Named lists (of ts))
+      → ((ts : Members) → size (of ts) ≡ 1 + sizes ts) → ((ts : Members) → depth (of ts) ≡ 1 + depths ts) → ((ts : Members) → Named-all test ts → count ts ≤ 8 → Named test (of ts))
       → (n done : ℕ) (s : S) (r : Tree × ℕ × S) → 1 ≤ n → n ≤ 8
-      → operator lists take-one of (read-members lists take-one tree (n - 1) (suc done) s) ≡ accepted r → Read lists (suc d) done (r .0) (r .1)
+      → operator test take-one of (read-members test take-one tree (n - 1) (suc done) s) ≡ accepted r → Read test (suc d) done (r .0) (r .1)
   unfolding operator
   operator-read d tree h of sz dp nm n done s r h₁ h₈ e =
-      let a = bound (read-members lists take-one tree (n - 1) (suc done) s) _ r e in
+      let a = bound (read-members test take-one tree (n - 1) (suc done) s) _ r e in
       let x = members-read d tree h (n - 1) (suc done) s (a .got) (a .first) in
       let q : (of (a .got .0), a .got .1, a .got .2) ≡ r = cc (a .rest) in
       rw (← q) (record {
@@ -157,12 +180,12 @@ module _ {S : Type 0} (lists : ℕ) (take-one : S → Outcome (Node × S)) (few 
       })
 
   below-read : (d : ℕ) (tree : ℕ → S → Outcome (Tree × ℕ × S)) → Reads d tree → (n : Node) → Few n → (done : ℕ) → done < 48 → (s : S) (r : Tree × ℕ × S)
-      → read-below lists take-one tree n (suc done) s ≡ accepted r → Read lists (suc d) done (r .0) (r .1)
+      → read-below test take-one tree n (suc done) s ≡ accepted r → Read test (suc d) done (r .0) (r .1)
   unfolding read-below size depth
   below-read d tree h (Leaf k) f done lt s r e =
-      let a = required 4 (ltb k lists) _ r e in
+      let a = both (test k) _ r e in
       let q : (leaf k, suc done, s) ≡ r = cc (a .1) in
-      rw (← q) (record { counted = omega arith; nodes = lt; levels = omega arith; named = ltb-true k lists (a .0) })
+      rw (← q) (record { counted = omega arith; nodes = lt; levels = omega arith; named = a .0 })
   below-read d tree h Difference f done lt s r e =
       let a = bound (tree (suc done) s) _ r e in
       let x = h (suc done) s (a .got) (a .first) in
@@ -178,15 +201,15 @@ module _ {S : Type 0} (lists : ℕ) (take-one : S → Outcome (Node × S)) (few 
   below-read d tree h (Union n) f done lt s r e = operator-read d tree h union (λ ts. refl) (λ ts. refl) (λ ts a b. (a, b)) n done s r (f .0) (f .1) e
   below-read d tree h (Intersection n) f done lt s r e = operator-read d tree h intersection (λ ts. refl) (λ ts. refl) (λ ts a b. (a, b)) n done s r (f .0) (f .1) e
 
-  tree-read : (d : ℕ) → Reads d (read-tree lists take-one d)
+  tree-read : (d : ℕ) → Reads d (read-tree test take-one d)
   unfolding read-tree
   tree-read zero done s r e = never-accepted (required 2 (ltb done 48) _ r e .1)
   tree-read (suc d) done s r e =
       let a = required 2 (ltb done 48) _ r e in
       let b = bound (take-one s) _ r (a .1) in
-      below-read d (read-tree lists take-one d) (tree-read d) (b .got .0) (few s (b .got) (b .first)) done (ltb-true done 48 (a .0)) (b .got .1) r (b .rest)
+      below-read d (read-tree test take-one d) (tree-read d) (b .got .0) (few s (b .got) (b .first)) done (ltb-true done 48 (a .0)) (b .got .1) r (b .rest)
 
-  pub expression-read : (s : S) (r : Tree × ℕ × S) → read-tree lists take-one 12 0 s ≡ accepted r → Expression lists (r .0)
+  pub expression-read : (s : S) (r : Tree × ℕ × S) → read-tree test take-one 12 0 s ≡ accepted r → Expression test (r .0)
   expression-read s r e = let x = tree-read 12 0 s r e in record { nodes = omega (arith, x .counted, x .nodes); levels = x .levels; named = x .named }
 
 -- a row byte's operator has 1 to 8 member nodes, and so has a packed node's
@@ -251,18 +274,18 @@ unfolding take-node
 few-packed s r e = let a = bound (take-field 2 s) _ r e in few-kind (a .got .0) (a .got .1) r (a .rest)
 
 -- what reads is an expression, from either form
-pub row-reads : (lists : ℕ) (bs : List ℕ) (t : Tree) → read-row lists bs ≡ accepted t → Expression lists t
+pub row-reads : (test : Leaf-test) (bs : List ℕ) (t : Tree) → read-row test bs ≡ accepted t → Expression test t
 unfolding read-row
-row-reads lists bs t e =
-    let a = bound (read-tree lists take-byte 12 0 bs) _ t e in
+row-reads test bs t e =
+    let a = bound (read-tree test take-byte 12 0 bs) _ t e in
     let b = required 5 (eqb (length (a .got .2)) 0) _ t (a .rest) in
     let q : a .got .0 ≡ t = cc (b .1) in
-    rw (← q) (expression-read lists take-byte few-byte bs (a .got) (a .first))
+    rw (← q) (expression-read test take-byte few-byte bs (a .got) (a .first))
 
-pub packed-reads : (lists : ℕ) (bs : List ℕ) (t : Tree) → read-packed lists bs ≡ accepted t → Expression lists t
+pub packed-reads : (test : Leaf-test) (bs : List ℕ) (t : Tree) → read-packed test bs ≡ accepted t → Expression test t
 unfolding read-packed
-packed-reads lists bs t e =
-    let a = bound (read-tree lists (take-node take-field) 12 0 (bits bs)) _ t e in
+packed-reads test bs t e =
+    let a = bound (read-tree test (take-node take-field) 12 0 (bits bs)) _ t e in
     let b = required 5 (only-fill (a .got .2)) _ t (a .rest) in
     let q : a .got .0 ≡ t = cc (b .1) in
-    rw (← q) (expression-read lists (take-node take-field) few-packed (bits bs) (a .got) (a .first))
+    rw (← q) (expression-read test (take-node take-field) few-packed (bits bs) (a .got) (a .first))

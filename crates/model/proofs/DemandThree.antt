@@ -14,7 +14,7 @@ use Rattle.model.specs.Lists.{top, Numbers, Lent, lists-of}
 use Rattle.model.specs.Expression.{size}
 use Rattle.model.specs.Sets.{members}
 use Rattle.model.specs.Machine.{Call, next, call, calls, machine, encode}
-use Rattle.model.specs.Run.{Start, starting, Low, Result, run, begin, steps, Source, source-of, run-of}
+use Rattle.model.specs.Run.{Start, starting, Low, Result, run, begin, steps, Source, named-in, source-of, run-of}
 use Rattle.model.specs.Forms.{read-packed}
 use Rattle.model.specs.Calls.{run-call}
 use Rattle.model.specs.Demands.{lengths, ran-all, Sound-run, Drawn, Broken, Demand-three, Third-demand, Third-demand-met}
@@ -101,11 +101,11 @@ unfolding run-call sent over
 run-sends l expression start codes ds lent r e = rw (e, length-map (r .replies) encode)
 
 pub source-accepted : (l : Lent) (expression : List ℕ) (s : Source) → source-of l expression ≡ accepted s
-    → (lists-of l ≡ accepted (s .lists)) × (read-packed (length (l .ends)) expression ≡ accepted (s .tree))
+    → (lists-of l ≡ accepted (s .lists)) × (read-packed (named-in l) expression ≡ accepted (s .tree))
 unfolding source-of
 source-accepted l expression s e =
     let a = bound (lists-of l) _ s e in
-    let b = bound (read-packed (length (l .ends)) expression) _ s (a .rest) in
+    let b = bound (read-packed (named-in l) expression) _ s (a .rest) in
     let q : record { lists = a .got; tree = b .got } ≡ s = cc (b .rest) in
     (rw (← q) (a .first), rw (← q) (b .first))
 
@@ -115,7 +115,7 @@ module _ (l : Lent) (expression : List ℕ) (n : Numbers (l .numbers)) (s : Sour
   up = accepted-up l (s .lists) n (source-accepted l expression s is .0)
 
   pub small : size (s .tree) ≤ 48
-  small = packed-reads (length (l .ends)) expression (s .tree) (source-accepted l expression s is .1) .nodes
+  small = packed-reads (named-in l) expression (s .tree) (source-accepted l expression s is .1) .nodes
 
   -- nothing but 12 and 13 can refuse a run over it
   accepts : (start : Start) (codes ds : List ℕ) (room : ℕ) → Low start → length codes ≡ length ds → length codes ≤ room

@@ -13,7 +13,7 @@ use Rattle.model.specs.Outcome.{accepted}
 use Rattle.model.specs.Expression.{Tree}
 use Rattle.model.specs.Sets.{member, members}
 use Rattle.model.specs.Run.{starting, run, Source, source-of}
-use Rattle.model.specs.Forms.{read-packed}
+use Rattle.model.specs.Forms.{there, read-packed}
 use Rattle.model.specs.Delivery.{read-delivery}
 use Rattle.model.specs.Calls.{laid-out}
 use Rattle.model.specs.Program.{halves, Listing, listing-of, listing}
@@ -25,7 +25,7 @@ use Rattle.model.proofs.Laid.{ends-length, laid-numbers, laid}
 use Rattle.model.proofs.DemandThree.{drawn}
 
 module _ (input : List ℕ) (stored : List ℕ × List ℕ) (is-stored : halves input ≡ accepted stored) (ls : List (List ℕ)) (is-lists : read-delivery 4096 32 (stored .1) ≡ accepted ls)
-    (t : Tree) (is-tree : read-packed (length ls) (stored .0) ≡ accepted t) where
+    (t : Tree) (is-tree : read-packed (there (length ls)) (stored .0) ≡ accepted t) where
   holds : Delivered 4096 32 ls
   holds = delivery-holds 4096 32 (stored .1) ls is-lists
 
@@ -65,5 +65,5 @@ listing-is input l e =
     let a = required 6 (leb (length input) 65535) _ l e in
     let b = bound (halves input) _ l (a .1) in
     let c = bound (read-delivery 4096 32 (b .got .1)) _ l (b .rest) in
-    let d = bound (read-packed (length (c .got)) (b .got .0)) _ l (c .rest) in
+    let d = bound (read-packed (there (length (c .got))) (b .got .0)) _ l (c .rest) in
     subst (Listed input) (accepted-same (d .rest)) (listed input (b .got) (b .first) (c .got) (c .first) (d .got) (d .first))

@@ -14,17 +14,17 @@ use Rattle.model.specs.Lists.{Numbers, count-holds, Lent, lend, lists-of
 use Rattle.model.specs.Expression.{Tree, size}
 use Rattle.model.specs.Sets.{all-numbers}
 use Rattle.model.specs.Fields.{Bytes}
-use Rattle.model.specs.Forms.{row, packed, read-row, read-packed}
+use Rattle.model.specs.Forms.{row, packed, Leaf-test, there, read-row, read-packed}
 use Rattle.model.specs.Delivery.{delivery, read-delivery}
 use Rattle.model.specs.Calls.{ends-from, unpack-expression, pack-expression, decode-delivery, encode-delivery}
 use Rattle.model.specs.Demands.{wrote, left-lent, wrote-all, Second-demand}
 use Rattle.model.proofs.Order.{and-true}
-use Rattle.model.proofs.Accepted.{bound, required, accepted-same, row-reads, packed-reads}
+use Rattle.model.proofs.Accepted.{bound, required, accepted-same, there-narrow, row-reads, packed-reads}
 use Rattle.model.proofs.Trees.{row-written, row-same, packed-written, packed-same}
 use Rattle.model.proofs.Deliveries.{delivery-same, delivery-holds, delivery-written}
 use Rattle.model.proofs.Laid.{ends-length, laid-over, storable-accepted}
 use Rattle.model.proofs.Shape.{row-long}
-use Rattle.model.proofs.Told.{Told, Success-of, told-then, told-test, told-right, succeeded, lists-told, row-told, packed-told, delivery-told}
+use Rattle.model.proofs.Told.{Told, Success-of, told-then, told-test, told-right, succeeded, lists-told, there-told, row-told, packed-told, delivery-told}
 
 few : (lists : ℕ) → count-holds lists ≡ true → lists ≤ 32
 unfolding count-holds
@@ -36,12 +36,13 @@ front xs lent = take-append-seam xs (drop (length xs) lent)
 
 -- ---- expressions: both calls read one form and write the other
 
-module _ (read : ℕ → List ℕ → Outcome Tree) (write : Tree → List ℕ) (count : Tree → ℕ) (counts : (t : Tree) → length (write t) ≡ count t) (told : (lists : ℕ) (bs : List ℕ) → Told (read lists bs)) where
+module _ (read : Leaf-test → List ℕ → Outcome Tree) (write : Tree → List ℕ) (count : Tree → ℕ) (counts : (t : Tree) → length (write t) ≡ count t)
+    (told : (test : Leaf-test) → ((k : ℕ) → Told (test k)) → (bs : List ℕ) → Told (read test bs)) where
   -- such a call
   abbrev outcome : List ℕ → ℕ → List ℕ → Outcome Success
   outcome bs lists lent = do
     require 7 (count-holds lists)
-    t ← read lists bs
+    t ← read (there lists) bs
     require 6 (leb (count t) (length lent))
     accepted (record { parts = count t ∷ []; written = write t ∷ [] })
 
@@ -49,10 +50,10 @@ module _ (read : ℕ → List ℕ → Outcome Tree) (write : Tree → List ℕ) 
   record Turned (bs : List ℕ) (lists : ℕ) (lent : List ℕ) : Type 0 where
     tree : Tree
     held : count-holds lists ≡ true
-    is : read lists bs ≡ accepted tree
+    is : read (there lists) bs ≡ accepted tree
     sends : sent 1 (lent ∷ []) (outcome bs lists lent) ≡ wrote-all (write tree) lent
 
-  sends-all : (bs : List ℕ) (lists : ℕ) (lent : List ℕ) (t : Tree) → count-holds lists ≡ true → read lists bs ≡ accepted t → length (write t) ≤ length lent
+  sends-all : (bs : List ℕ) (lists : ℕ) (lent : List ℕ) (t : Tree) → count-holds lists ≡ true → read (there lists) bs ≡ accepted t → length (write t) ≤ length lent
       → sent 1 (lent ∷ []) (outcome bs lists lent) ≡ wrote-all (write t) lent
   unfolding sent over
   sends-all bs lists lent t h e l =
@@ -60,10 +61,10 @@ module _ (read : ℕ → List ℕ → Outcome Tree) (write : Tree → List ℕ) 
 
   turned : (bs : List ℕ) (lists : ℕ) (lent : List ℕ) → sent 1 (lent ∷ []) (outcome bs lists lent) .number ≡ 0 → Turned bs lists lent
   turned bs lists lent z =
-      let all-told = told-test 7 (count-holds lists) _ (omega arith) (told-then (read lists bs) _ (told lists bs) (λ t. told-test 6 (leb (count t) (length lent)) _ (omega arith) told-right)) in
+      let all-told = told-test 7 (count-holds lists) _ (omega arith) (told-then (read (there lists) bs) _ (told (there lists) (there-told lists) bs) (λ t. told-test 6 (leb (count t) (length lent)) _ (omega arith) told-right)) in
       let s = succeeded 1 (lent ∷ []) (outcome bs lists lent) all-told z in
       let a = required 7 (count-holds lists) _ (s .got) (s .is) in
-      let b = bound (read lists bs) _ (s .got) (a .1) in
+      let b = bound (read (there lists) bs) _ (s .got) (a .1) in
       let c = required 6 (leb (count (b .got)) (length lent)) _ (s .got) (b .rest) in
       record {
         tree = b .got;
@@ -86,10 +87,10 @@ row-back : (row-form : List ℕ) (lists : ℕ) (bytes lent : List ℕ) → pack-
 row-back row-form lists bytes lent z room =
     let p = turned read-row packed (λ t. length (packed t)) (λ t. refl) row-told row-form lists bytes (sym (ap (λ (s : Sent). s .number) (pack-is row-form lists bytes)) ∙ z) in
     let t : Tree = p .tree in
-    let same : row t ≡ row-form = row-same lists row-form t (p .is) in
-    let there : wrote (pack-expression row-form lists bytes) ≡ packed t = ap wrote (pack-is row-form lists bytes ∙ p .sends) ∙ front (packed t) bytes in
-    let back : read-packed lists (packed t) ≡ accepted t = packed-written lists t (few lists (p .held)) (row-reads lists row-form t (p .is)) in
-    ap (λ (b : List ℕ). unpack-expression b lists lent) there ∙ unpack-is (packed t) lists lent
+    let same : row t ≡ row-form = row-same (there lists) row-form t (p .is) in
+    let wrote-it : wrote (pack-expression row-form lists bytes) ≡ packed t = ap wrote (pack-is row-form lists bytes ∙ p .sends) ∙ front (packed t) bytes in
+    let back : read-packed (there lists) (packed t) ≡ accepted t = packed-written (there lists) t (there-narrow lists (few lists (p .held))) (row-reads (there lists) row-form t (p .is)) in
+    ap (λ (b : List ℕ). unpack-expression b lists lent) wrote-it ∙ unpack-is (packed t) lists lent
     ∙ sends-all read-packed row size row-long packed-told (packed t) lists lent t (p .held) back (rw same room)
     ∙ ap (λ (r : List ℕ). wrote-all r lent) same
 
@@ -98,10 +99,10 @@ packed-back : (bytes : List ℕ) (lists : ℕ) (lent-row lent : List ℕ) → By
 packed-back bytes lists lent-row lent small z room =
     let p = turned read-packed row size row-long packed-told bytes lists lent-row (sym (ap (λ (s : Sent). s .number) (unpack-is bytes lists lent-row)) ∙ z) in
     let t : Tree = p .tree in
-    let same : packed t ≡ bytes = packed-same lists bytes t small (p .is) in
-    let there : wrote (unpack-expression bytes lists lent-row) ≡ row t = ap wrote (unpack-is bytes lists lent-row ∙ p .sends) ∙ front (row t) lent-row in
-    let back : read-row lists (row t) ≡ accepted t = row-written lists t (few lists (p .held)) (packed-reads lists bytes t (p .is)) in
-    ap (λ (r : List ℕ). pack-expression r lists lent) there ∙ pack-is (row t) lists lent
+    let same : packed t ≡ bytes = packed-same (there lists) bytes t small (p .is) in
+    let wrote-it : wrote (unpack-expression bytes lists lent-row) ≡ row t = ap wrote (unpack-is bytes lists lent-row ∙ p .sends) ∙ front (row t) lent-row in
+    let back : read-row (there lists) (row t) ≡ accepted t = row-written (there lists) t (there-narrow lists (few lists (p .held))) (packed-reads (there lists) bytes t (p .is)) in
+    ap (λ (r : List ℕ). pack-expression r lists lent) wrote-it ∙ pack-is (row t) lists lent
     ∙ sends-all read-row packed (λ t. length (packed t)) (λ t. refl) row-told (row t) lists lent t (p .held) back (rw same room)
     ∙ ap (λ (b : List ℕ). wrote-all b lent) same
 
@@ -170,8 +171,8 @@ pub second-demand : Second-demand
 second-demand = record { row-reads-back = row-back; packed-written-back = packed-back; lists-read-back = lists-back; delivery-written-back = delivery-back }
 
 -- so no two byte strings mean one thing
-pub packed-one : (lists : ℕ) (b c : List ℕ) (t : Tree) → Bytes b → Bytes c → read-packed lists b ≡ accepted t → read-packed lists c ≡ accepted t → b ≡ c
-packed-one lists b c t hb hc eb ec = sym (packed-same lists b t hb eb) ∙ packed-same lists c t hc ec
+pub packed-one : (test : Leaf-test) (b c : List ℕ) (t : Tree) → Bytes b → Bytes c → read-packed test b ≡ accepted t → read-packed test c ≡ accepted t → b ≡ c
+packed-one test b c t hb hc eb ec = sym (packed-same test b t hb eb) ∙ packed-same test c t hc ec
 
 pub delivery-one : (numbers-room ends-room : ℕ) (b c : List ℕ) (ls : List (List ℕ)) → Bytes b → Bytes c → read-delivery numbers-room ends-room b ≡ accepted ls → read-delivery numbers-room ends-room c ≡ accepted ls → b ≡ c
 delivery-one numbers-room ends-room b c ls hb hc eb ec = sym (delivery-same numbers-room ends-room b ls hb eb) ∙ delivery-same numbers-room ends-room c ls hc ec

@@ -11,8 +11,8 @@ use Rattle.model.specs.Outcome.{Outcome, refused, accepted, Sent, Succes
 use Rattle.model.specs.Lists.{count-holds, Lent, lists-of}
 use Rattle.model.specs.Expression.{Tree, leaf, difference, union, intersection, Members, one, more, size, sizes}
 use Rattle.model.specs.Machine.{Call, calls, encode}
-use Rattle.model.specs.Run.{State, step, steps, Start, starting, begin, Result, run, run-of}
-use Rattle.model.specs.Forms.{nodes, nodes-all, row-byte, row, packed, read-row, read-packed}
+use Rattle.model.specs.Run.{State, step, steps, Start, starting, begin, Result, run, named-in, run-of}
+use Rattle.model.specs.Forms.{nodes, nodes-all, row-byte, row, packed, there, read-row, read-packed}
 use Rattle.model.specs.Delivery.{delivery, read-delivery}
 use Rattle.model.specs.Calls.{unpack-expression, pack-expression, decode-delivery, encode-delivery, run-parts, run-size, run-call}
 use Rattle.model.specs.Program.{listing, listed, list-members}
@@ -86,7 +86,7 @@ pub unpack-shape : (bytes : List ℕ) (lists : ℕ) (lent : List ℕ) → Shape 
 unfolding unpack-expression
 unpack-shape bytes lists lent = sent-shape 1 (lent ∷ []) _ (λ s e.
     let a = required 7 (count-holds lists) _ s e in
-    let b = bound (read-packed lists bytes) _ s (a .1) in
+    let b = bound (read-packed (there lists) bytes) _ s (a .1) in
     let c = required 6 (leb (size (b .got)) (length lent)) _ s (b .rest) in
     subst (Fits 1 (lent ∷ [])) (accepted-same (c .1)) (refl, (omega (arith, row-long (b .got), leb-true (size (b .got)) (length lent) (c .0)), tt)))
 
@@ -94,7 +94,7 @@ pub pack-shape : (bytes : List ℕ) (lists : ℕ) (lent : List ℕ) → Shape 1 
 unfolding pack-expression
 pack-shape bytes lists lent = sent-shape 1 (lent ∷ []) _ (λ s e.
     let a = required 7 (count-holds lists) _ s e in
-    let b = bound (read-row lists bytes) _ s (a .1) in
+    let b = bound (read-row (there lists) bytes) _ s (a .1) in
     let c = required 6 (leb (length (packed (b .got))) (length lent)) _ s (b .rest) in
     subst (Fits 1 (lent ∷ [])) (accepted-same (c .1)) (refl, (leb-true (length (packed (b .got))) (length lent) (c .0), tt)))
 
@@ -123,7 +123,7 @@ run-fits l expression start codes ds lent got r =
     let ls = r .source .lists in
     let t = r .source .tree in
     let last = steps ls t (begin start) (calls codes ds) .1 in
-    let c = counted-run ls t (packed-reads (length (l .ends)) expression t (source-accepted l expression (r .source) (r .is-source) .1) .nodes) start (calls codes ds) in
+    let c = counted-run ls t (packed-reads (named-in l) expression t (source-accepted l expression (r .source) (r .is-source) .1) .nodes) start (calls codes ds) in
     subst (λ (g : Result). Fits run-size (lent ∷ []) (record { parts = run-parts (g .moves) (g .places) (g .last); written = map encode (g .replies) ∷ [] })) (r .are) (
       parts-long (last .readers .moves) (last .readers .places) (starting (last .floor)) (c .long),
       (omega (arith, length-map (steps ls t (begin start) (calls codes ds) .0) encode, replies-long ls t start codes ds (r .paired), r .fits), tt),

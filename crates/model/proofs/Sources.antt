@@ -12,7 +12,7 @@ use Rattle.model.specs.declared.Node.the-variants.{Leaf, Difference, Uni
 use Rattle.model.specs.Outcome.{Outcome, refused, accepted, _>>=_, _>>_, require}
 use Rattle.model.specs.Lists.{top}
 use Rattle.model.specs.Expression.{Tree, union, intersection, Members, one}
-use Rattle.model.specs.Forms.{take-rest, take-kind, take-node, read-members, operator, read-below, read-tree}
+use Rattle.model.specs.Forms.{take-rest, take-kind, take-node, Leaf-test, read-members, operator, read-below, read-tree}
 use Rattle.model.specs.Delivery.{largest-gap, width, read-gaps, read-later, read-body, read-list, read-lists}
 
 module _ {S T : Type 0} (see : S → T) where
@@ -52,10 +52,10 @@ module _ {S T : Type 0} (see : S → T) where
   tree-then (refused n) f g e h = rw e
   tree-then (accepted r) f g e h = rw e (h (r .0) (r .1) (r .2))
 
-  read-tested : {B : Type 0} (n : ℕ) (b : Bool) (o : Outcome (B × ℕ × S)) {p : Outcome (B × ℕ × T)} → p ≡ read-seen o → (require n b >> p) ≡ read-seen (require n b >> o)
+  read-and : {B : Type 0} (t : Outcome (Unit {0})) (o : Outcome (B × ℕ × S)) {p : Outcome (B × ℕ × T)} → p ≡ read-seen o → (t >> p) ≡ read-seen (t >> o)
   unfolding read-seen
-  read-tested n true o e = e
-  read-tested n false o e = refl
+  read-and (refused n) o e = refl
+  read-and (accepted u) o e = e
 
 -- sources off which fields are taken alike
 module _ {S T : Type 0} (see : S → T) (take-bits₁ : ℕ → S → Outcome (ℕ × S)) (take-bits₂ : ℕ → T → Outcome (ℕ × T))
@@ -104,32 +104,32 @@ module _ {S T : Type 0} (see : S → T) (take-bits₁ : ℕ → S → Outcome (�
       then see (read-lists take-bits₁ n (room - length l) r) _ _ (lists-seen n (room - length l) r) (λ ls q. refl))
 
 -- sources off which nodes are taken alike
-module _ {S T : Type 0} (see : S → T) (lists : ℕ) (take-one₁ : S → Outcome (Node × S)) (take-one₂ : T → Outcome (Node × T))
+module _ {S T : Type 0} (see : S → T) (test : Leaf-test) (take-one₁ : S → Outcome (Node × S)) (take-one₂ : T → Outcome (Node × T))
     (alike : (s : S) → take-one₂ (see s) ≡ seen see (take-one₁ s)) where
   abbrev Alike : (ℕ → S → Outcome (Tree × ℕ × S)) → (ℕ → T → Outcome (Tree × ℕ × T)) → Type 0
   Alike tree₁ tree₂ = (done : ℕ) (s : S) → tree₂ done (see s) ≡ read-seen see (tree₁ done s)
 
   module _ (tree₁ : ℕ → S → Outcome (Tree × ℕ × S)) (tree₂ : ℕ → T → Outcome (Tree × ℕ × T)) (h : Alike tree₁ tree₂) where
-    members-seen : (n done : ℕ) (s : S) → read-members lists take-one₂ tree₂ n done (see s) ≡ read-seen see (read-members lists take-one₁ tree₁ n done s)
+    members-seen : (n done : ℕ) (s : S) → read-members test take-one₂ tree₂ n done (see s) ≡ read-seen see (read-members test take-one₁ tree₁ n done s)
     unfolding read-members read-seen
     members-seen zero done s = tree-then see (tree₁ done s) _ _ (h done s) (λ t m r. refl)
     members-seen (suc n) done s = tree-then see (tree₁ done s) _ _ (h done s) (λ t m r.
-        tree-then see (read-members lists take-one₁ tree₁ n m r) _ _ (members-seen n m r) (λ ts k q. refl))
+        tree-then see (read-members test take-one₁ tree₁ n m r) _ _ (members-seen n m r) (λ ts k q. refl))
 
     operator-seen : (of : Members → Tree) (n done : ℕ) (s : S)
-        → operator lists take-one₂ of (read-members lists take-one₂ tree₂ n done (see s)) ≡ read-seen see (operator lists take-one₁ of (read-members lists take-one₁ tree₁ n done s))
+        → operator test take-one₂ of (read-members test take-one₂ tree₂ n done (see s)) ≡ read-seen see (operator test take-one₁ of (read-members test take-one₁ tree₁ n done s))
     unfolding operator read-seen
-    operator-seen of n done s = tree-then see (read-members lists take-one₁ tree₁ n done s) _ _ (members-seen n done s) (λ ts k q. refl)
+    operator-seen of n done s = tree-then see (read-members test take-one₁ tree₁ n done s) _ _ (members-seen n done s) (λ ts k q. refl)
 
-    below-seen : (node : Node) (done : ℕ) (s : S) → read-below lists take-one₂ tree₂ node done (see s) ≡ read-seen see (read-below lists take-one₁ tree₁ node done s)
+    below-seen : (node : Node) (done : ℕ) (s : S) → read-below test take-one₂ tree₂ node done (see s) ≡ read-seen see (read-below test take-one₁ tree₁ node done s)
     unfolding read-below read-seen
-    below-seen (Leaf k) done s = read-tested see 4 (ltb k lists) _ refl
+    below-seen (Leaf k) done s = read-and see (test k) _ refl
     below-seen Difference done s = tree-then see (tree₁ done s) _ _ (h done s) (λ t m r. tree-then see (tree₁ m r) _ _ (h m r) (λ u k q. refl))
     below-seen (Union n) done s = operator-seen union (n - 1) done s
     below-seen (Intersection n) done s = operator-seen intersection (n - 1) done s
 
-  pub tree-seen : (d done : ℕ) (s : S) → read-tree lists take-one₂ d done (see s) ≡ read-seen see (read-tree lists take-one₁ d done s)
+  pub tree-seen : (d done : ℕ) (s : S) → read-tree test take-one₂ d done (see s) ≡ read-seen see (read-tree test take-one₁ d done s)
   unfolding read-tree read-seen
-  tree-seen zero done s = read-tested see 2 (ltb done 48) _ refl
-  tree-seen (suc d) done s = read-tested see 2 (ltb done 48) _ (node-then see (take-one₁ s) _ _ (alike s) (λ node r.
-      below-seen (read-tree lists take-one₁ d) (read-tree lists take-one₂ d) (tree-seen d) node (suc done) r))
+  tree-seen zero done s = read-and see (require 2 (ltb done 48)) _ refl
+  tree-seen (suc d) done s = read-and see (require 2 (ltb done 48)) _ (node-then see (take-one₁ s) _ _ (alike s) (λ node r.
+      below-seen (read-tree test take-one₁ d) (read-tree test take-one₂ d) (tree-seen d) node (suc done) r))

@@ -19,7 +19,7 @@ use Rattle.model.specs.Run
 use Rattle.model.specs.Run.{starting, Result, run, run-of}
 use Rattle.model.specs.Fields
 use Rattle.model.specs.Forms
-use Rattle.model.specs.Forms.{row, packed, read-row, read-packed}
+use Rattle.model.specs.Forms.{row, packed, there, read-row, read-packed}
 use Rattle.model.specs.Delivery
 use Rattle.model.specs.Delivery.{delivery, read-delivery}
 use Rattle.model.specs.Calls.{unpack-expression, pack-expression, decode-delivery, encode-delivery, run-size, run-call, ends-from}
@@ -39,7 +39,7 @@ unfolding Steps.seek Steps.check-node Steps.read Steps.answer Steps.passed Steps
 opens-steps = tt
 
 opens-forms : Unit {0}
-unfolding Fields.take-field Fields.bits Fields.field Fields.value Fields.only-fill Fields.zeros Fields.bytes Fields.fill read-packed Forms.read-tree Forms.read-below Forms.operator Forms.read-members Forms.take-node Forms.take-kind Forms.take-rest packed Forms.packed-nodes Forms.packed-node Forms.nodes read-row Forms.take-byte Forms.node-of row Forms.row-byte
+unfolding Fields.take-field Fields.bits Fields.field Fields.value Fields.only-fill Fields.zeros Fields.bytes Fields.fill read-packed there Forms.read-tree Forms.read-below Forms.operator Forms.read-members Forms.take-node Forms.take-kind Forms.take-rest packed Forms.packed-nodes Forms.packed-node Forms.nodes read-row Forms.take-byte Forms.node-of row Forms.row-byte
 opens-forms = tt
 
 opens-delivery : Unit {0}
@@ -213,7 +213,7 @@ deliveries =
 -- P1 to P9
 pub record Papers : Type 0 where
   pub P1-to-P7 : map computed runs ≡ map stated runs
-  pub P8-read : map (λ e. read-packed 2 (e .0)) expressions ≡ map (λ e. accepted (e .1)) expressions
+  pub P8-read : map (λ e. read-packed (there 2) (e .0)) expressions ≡ map (λ e. accepted (e .1)) expressions
   pub P8-written : map (λ e. packed (e .1)) expressions ≡ map (λ e. e .0) expressions
   pub P9-read : map (λ d. read-delivery 3 1 (d .0)) deliveries ≡ map (λ d. accepted (d .1)) deliveries
   pub P9-written : map (λ d. delivery (d .1)) deliveries ≡ map (λ d. d .0) deliveries

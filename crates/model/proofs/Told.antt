@@ -12,7 +12,7 @@ use Rattle.model.specs.Outcome.{Outcome, refused, accepted, _>>=_, _>>_,
 use Rattle.model.specs.Lists.{top, all-ascending, lists-from, count-holds, ends-hold, Lent, lists-of}
 use Rattle.model.specs.Expression.{Tree}
 use Rattle.model.specs.Fields.{bits, take-field, only-fill}
-use Rattle.model.specs.Forms.{node-of, take-byte, take-rest, take-kind, take-node, read-members, operator, read-below, read-tree, read-row, read-packed}
+use Rattle.model.specs.Forms.{node-of, take-byte, take-rest, take-kind, take-node, Leaf-test, there, read-members, operator, read-below, read-tree, read-row, read-packed}
 use Rattle.model.proofs.Accepted.{never-accepted}
 use Rattle.model.specs.Delivery.{largest-gap, width, read-gaps, read-later, read-body, read-list, read-lists, read-delivery}
 
@@ -29,9 +29,16 @@ pub told-then : {A B : Type 0} (o : Outcome A) (f : A → Outcome B) → Told o 
 told-then (refused n) f h g = told-by (h .never n refl)
 told-then (accepted a) f h g = g a
 
+pub told-and : {B : Type 0} (t : Outcome (Unit {0})) (o : Outcome B) → Told t → Told o → Told (t >> o)
+told-and (refused n) o h g = told-by (h .never n refl)
+told-and (accepted u) o h g = g
+
+told-require : (n : ℕ) (b : Bool) → 1 ≤ n → Told (require n b)
+told-require n true h = told-right
+told-require n false h = told-by h
+
 pub told-test : {B : Type 0} (n : ℕ) (b : Bool) (o : Outcome B) → 1 ≤ n → Told o → Told (require n b >> o)
-told-test n true o h g = g
-told-test n false o h g = told-by h
+told-test n b o h g = told-and (require n b) o (told-require n b h) g
 
 -- what a call that hands back 0 has accepted
 pub record Success-of {A : Type 0} (o : Outcome A) : Type 0 where
@@ -42,6 +49,12 @@ pub zero-accepts : {A : Type 0} (o : Outcome A) → Told o → number-of o ≡ 0
 unfolding number-of
 zero-accepts (refused n) t e = absurd (omega (arith, t .never n refl))
 zero-accepts (accepted a) t e = record { got = a; is = refl }
+
+-- and what one that hands back another number has refused
+pub refused-by : {A : Type 0} (o : Outcome A) → (number-of o ≡ 0 → ⊥) → o ≡ refused (number-of o)
+unfolding number-of
+refused-by (refused n) h = refl
+refused-by (accepted a) h = absurd (h refl)
 
 sent-number : (parts : ℕ) (rows : List (List ℕ)) (o : Outcome Success) → number-of o ≡ sent parts rows o .number
 unfolding number-of sent
@@ -57,23 +70,27 @@ lists-told l = told-test 7 (count-holds (length (l .ends))) _ (omega arith) (tol
 
 -- ---- expressions
 
-module _ {S : Type 0} (lists : ℕ) (take-one : S → Outcome (Node × S)) (one-told : (s : S) → Told (take-one s)) where
-  members-told : (tree : ℕ → S → Outcome (Tree × ℕ × S)) → ((done : ℕ) (s : S) → Told (tree done s)) → (n done : ℕ) (s : S) → Told (read-members lists take-one tree n done s)
+pub there-told : (lists k : ℕ) → Told (there lists k)
+unfolding there
+there-told lists k = told-require 4 (ltb k lists) (omega arith)
+
+module _ {S : Type 0} (test : Leaf-test) (leaf-told : (k : ℕ) → Told (test k)) (take-one : S → Outcome (Node × S)) (one-told : (s : S) → Told (take-one s)) where
+  members-told : (tree : ℕ → S → Outcome (Tree × ℕ × S)) → ((done : ℕ) (s : S) → Told (tree done s)) → (n done : ℕ) (s : S) → Told (read-members test take-one tree n done s)
   unfolding read-members
   members-told tree h zero done s = told-then (tree done s) _ (h done s) (λ r. told-right)
-  members-told tree h (suc n) done s = told-then (tree done s) _ (h done s) (λ r. told-then (read-members lists take-one tree n (r .1) (r .2)) _ (members-told tree h n (r .1) (r .2)) (λ q. told-right))
+  members-told tree h (suc n) done s = told-then (tree done s) _ (h done s) (λ r. told-then (read-members test take-one tree n (r .1) (r .2)) _ (members-told tree h n (r .1) (r .2)) (λ q. told-right))
 
-  below-told : (tree : ℕ → S → Outcome (Tree × ℕ × S)) → ((done : ℕ) (s : S) → Told (tree done s)) → (node : Node) (done : ℕ) (s : S) → Told (read-below lists take-one tree node done s)
+  below-told : (tree : ℕ → S → Outcome (Tree × ℕ × S)) → ((done : ℕ) (s : S) → Told (tree done s)) → (node : Node) (done : ℕ) (s : S) → Told (read-below test take-one tree node done s)
   unfolding read-below operator
-  below-told tree h (Leaf k) done s = told-test 4 (ltb k lists) _ (omega arith) told-right
+  below-told tree h (Leaf k) done s = told-and (test k) _ (leaf-told k) told-right
   below-told tree h Difference done s = told-then (tree done s) _ (h done s) (λ r. told-then (tree (r .1) (r .2)) _ (h (r .1) (r .2)) (λ q. told-right))
-  below-told tree h (Union n) done s = told-then (read-members lists take-one tree (n - 1) done s) _ (members-told tree h (n - 1) done s) (λ r. told-right)
-  below-told tree h (Intersection n) done s = told-then (read-members lists take-one tree (n - 1) done s) _ (members-told tree h (n - 1) done s) (λ r. told-right)
+  below-told tree h (Union n) done s = told-then (read-members test take-one tree (n - 1) done s) _ (members-told tree h (n - 1) done s) (λ r. told-right)
+  below-told tree h (Intersection n) done s = told-then (read-members test take-one tree (n - 1) done s) _ (members-told tree h (n - 1) done s) (λ r. told-right)
 
-  tree-told : (d done : ℕ) (s : S) → Told (read-tree lists take-one d done s)
+  tree-told : (d done : ℕ) (s : S) → Told (read-tree test take-one d done s)
   unfolding read-tree
   tree-told zero done s = told-test 2 (ltb done 48) _ (omega arith) (told-by {n = 3} (omega arith))
-  tree-told (suc d) done s = told-test 2 (ltb done 48) _ (omega arith) (told-then (take-one s) _ (one-told s) (λ r. below-told (read-tree lists take-one d) (tree-told d) (r .0) (suc done) (r .1)))
+  tree-told (suc d) done s = told-test 2 (ltb done 48) _ (omega arith) (told-then (take-one s) _ (one-told s) (λ r. below-told (read-tree test take-one d) (tree-told d) (r .0) (suc done) (r .1)))
 
 node-told : (b : ℕ) → Told (node-of b)
 unfolding node-of
@@ -89,9 +106,9 @@ unfolding take-byte
 byte-told [] = told-by {n = 1} (omega arith)
 byte-told (b ∷ bs) = told-then (node-of b) _ (node-told b) (λ n. told-right)
 
-pub row-told : (lists : ℕ) (bs : List ℕ) → Told (read-row lists bs)
+pub row-told : (test : Leaf-test) → ((k : ℕ) → Told (test k)) → (bs : List ℕ) → Told (read-row test bs)
 unfolding read-row
-row-told lists bs = told-then (read-tree lists take-byte 12 0 bs) _ (tree-told lists take-byte byte-told 12 0 bs) (λ r. told-test 5 (eqb (length (r .2)) 0) _ (omega arith) told-right)
+row-told test leaf-told bs = told-then (read-tree test take-byte 12 0 bs) _ (tree-told test leaf-told take-byte byte-told 12 0 bs) (λ r. told-test 5 (eqb (length (r .2)) 0) _ (omega arith) told-right)
 
 field-told : (w : ℕ) (bs : List Bool) → Told (take-field w bs)
 unfolding take-field
@@ -112,9 +129,9 @@ packed-node-told : (bs : List Bool) → Told (take-node take-field bs)
 unfolding take-node
 packed-node-told bs = told-then (take-field 2 bs) _ (field-told 2 bs) (λ r. kind-told (r .0) (r .1))
 
-pub packed-told : (lists : ℕ) (bs : List ℕ) → Told (read-packed lists bs)
+pub packed-told : (test : Leaf-test) → ((k : ℕ) → Told (test k)) → (bs : List ℕ) → Told (read-packed test bs)
 unfolding read-packed
-packed-told lists bs = told-then (read-tree lists (take-node take-field) 12 0 (bits bs)) _ (tree-told lists (take-node take-field) packed-node-told 12 0 (bits bs)) (λ r. told-test 5 (only-fill (r .2)) _ (omega arith) told-right)
+packed-told test leaf-told bs = told-then (read-tree test (take-node take-field) 12 0 (bits bs)) _ (tree-told test leaf-told (take-node take-field) packed-node-told 12 0 (bits bs)) (λ r. told-test 5 (only-fill (r .2)) _ (omega arith) told-right)
 
 -- ---- deliveries
 

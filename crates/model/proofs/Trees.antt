@@ -16,10 +16,10 @@ use Rattle.model.specs.declared.Node.the-variants.{Leaf, Difference, Uni
 use Rattle.model.specs.Outcome.{Outcome, refused, accepted}
 use Rattle.model.specs.Expression.{Tree, leaf, difference, union, intersection, Members, one, more, size, sizes, depth, depths, count}
 use Rattle.model.specs.Fields.{Bytes, field, bits, bytes, take-field, only-fill}
-use Rattle.model.specs.Forms.{nodes, nodes-all, row-byte, row, packed-node, packed-nodes, packed, node-of, take-byte, take-rest, take-kind, take-node, read-members, operator, read-below, read-tree, read-row, read-packed}
+use Rattle.model.specs.Forms.{nodes, nodes-all, row-byte, row, packed-node, packed-nodes, packed, node-of, take-byte, take-rest, take-kind, take-node, Leaf-test, read-members, operator, read-below, read-tree, read-row, read-packed}
 use Rattle.model.specs.Demands.{Named, Named-all, Expression}
 use Rattle.model.proofs.Order.{and-true}
-use Rattle.model.proofs.Accepted.{never-accepted, accepted-same, bound, required, field-lt, Few, few-byte, few-packed}
+use Rattle.model.proofs.Accepted.{never-accepted, accepted-same, bound, required, both, Narrow, field-lt, Few, few-byte, few-packed}
 use Rattle.model.proofs.Bits.{taken, was-field, filled, fill-only, bytes-are}
 
 -- a node that can be written: a list number below 32, 1 to 8 member nodes
@@ -45,22 +45,22 @@ module _ {A : Type 0} (put : Node → List A) where
   puts-append [] ns rest = refl
   puts-append (m ∷ ms) ns rest = append-assoc (put m) (puts (ms ++ ns)) rest ∙ ap (λ (l : List A). put m ++ l) (puts-append ms ns rest) ∙ sym (append-assoc (put m) (puts ms) (puts ns ++ rest))
 
-  module _ (lists : ℕ) (take-one : List A → Outcome (Node × List A)) where
+  module _ (test : Leaf-test) (take-one : List A → Outcome (Node × List A)) where
     -- what is written reads back
-    module _ (few : lists ≤ 32) (back : (n : Node) (rest : List A) → Writable n → take-one (put n ++ rest) ≡ accepted (n, rest)) where
+    module _ (narrow : Narrow test) (back : (n : Node) (rest : List A) → Writable n → take-one (put n ++ rest) ≡ accepted (n, rest)) where
       -- a node off the front, and the tree below it
       first-node : (n : Node) → Writable n → (ns : List Node) (rest : List A) (d done : ℕ) → done < 48
-          → read-tree lists take-one (suc d) done (puts (n ∷ ns) ++ rest) ≡ read-below lists take-one (read-tree lists take-one d) n (suc done) (puts ns ++ rest)
+          → read-tree test take-one (suc d) done (puts (n ∷ ns) ++ rest) ≡ read-below test take-one (read-tree test take-one d) n (suc done) (puts ns ++ rest)
       unfolding read-tree puts
       first-node n w ns rest d done h = rw (lt-ltb done 48 h, append-assoc (put n) (puts ns) rest, back n (puts ns ++ rest) w)
 
       mutual
         unfolding nodes size depth count read-below read-members operator puts
 
-        reads-back : (t : Tree) (d done : ℕ) (rest : List A) → depth t ≤ d → done + size t ≤ 48 → Named lists t
-            → read-tree lists take-one d done (puts (nodes t) ++ rest) ≡ accepted (t, done + size t, rest)
+        reads-back : (t : Tree) (d done : ℕ) (rest : List A) → depth t ≤ d → done + size t ≤ 48 → Named test t
+            → read-tree test take-one d done (puts (nodes t) ++ rest) ≡ accepted (t, done + size t, rest)
         reads-back (leaf k) zero done rest hd hs hn = absurd (omega arith)
-        reads-back (leaf k) (suc d) done rest hd hs hn = first-node (Leaf k) (omega arith) [] rest d done (omega arith) ∙ rw (lt-ltb k lists hn) (ap (λ (n : ℕ). accepted (leaf k, n, rest)) (omega arith))
+        reads-back (leaf k) (suc d) done rest hd hs hn = first-node (Leaf k) (narrow k hn) [] rest d done (omega arith) ∙ rw hn (ap (λ (n : ℕ). accepted (leaf k, n, rest)) (omega arith))
         reads-back (difference s t) zero done rest hd hs hn = absurd (omega arith)
         reads-back (difference s t) (suc d) done rest hd hs hn = first-node Difference tt (nodes s ++ nodes t) rest d done (omega arith)
             ∙ rw (
@@ -73,8 +73,8 @@ module _ {A : Type 0} (put : Node → List A) where
         reads-back (intersection ts) zero done rest hd hs hn = absurd (omega arith)
         reads-back (intersection ts) (suc d) done rest hd hs hn = first-node (Intersection (count ts)) (count-pos ts, hn .1) (nodes-all ts) rest d done (omega arith) ∙ rw (all-back ts d (suc done) rest (omega arith) (omega arith) (hn .0)) (ap (λ (n : ℕ). accepted (intersection ts, n, rest)) (omega arith))
 
-        all-back : (ts : Members) (d done : ℕ) (rest : List A) → depths ts ≤ d → done + sizes ts ≤ 48 → Named-all lists ts
-            → read-members lists take-one (read-tree lists take-one d) (count ts - 1) done (puts (nodes-all ts) ++ rest) ≡ accepted (ts, done + sizes ts, rest)
+        all-back : (ts : Members) (d done : ℕ) (rest : List A) → depths ts ≤ d → done + sizes ts ≤ 48 → Named-all test ts
+            → read-members test take-one (read-tree test take-one d) (count ts - 1) done (puts (nodes-all ts) ++ rest) ≡ accepted (ts, done + sizes ts, rest)
         all-back (one t) d done rest hd hs hn = rw (reads-back t d done rest hd hs hn)
         all-back (more t ts) d done rest hd hs hn =
             let c : suc (count ts) - 1 ≡ suc (count ts - 1) = omega (arith, count-pos ts) in
@@ -91,7 +91,7 @@ module _ {A : Type 0} (put : Node → List A) where
       Wrote tree = (done : ℕ) (s : List A) (r : Tree × ℕ × List A) → tree done s ≡ accepted r → s ≡ puts (nodes (r .0)) ++ r .2
 
       members-wrote : (tree : ℕ → List A → Outcome (Tree × ℕ × List A)) → Wrote tree → (n done : ℕ) (s : List A) (r : Members × ℕ × List A)
-          → read-members lists take-one tree n done s ≡ accepted r → (s ≡ puts (nodes-all (r .0)) ++ r .2) × (count (r .0) ≡ suc n)
+          → read-members test take-one tree n done s ≡ accepted r → (s ≡ puts (nodes-all (r .0)) ++ r .2) × (count (r .0) ≡ suc n)
       unfolding read-members nodes count
       members-wrote tree h zero done s r e =
           let a = bound (tree done s) _ r e in
@@ -99,7 +99,7 @@ module _ {A : Type 0} (put : Node → List A) where
           rw (← q) (h done s (a .got) (a .first), refl)
       members-wrote tree h (suc n) done s r e =
           let a = bound (tree done s) _ r e in
-          let b = bound (read-members lists take-one tree n (a .got .1) (a .got .2)) _ r (a .rest) in
+          let b = bound (read-members test take-one tree n (a .got .1) (a .got .2)) _ r (a .rest) in
           let x = members-wrote tree h n (a .got .1) (a .got .2) (b .got) (b .first) in
           let q : (more (a .got .0) (b .got .0), b .got .1, b .got .2) ≡ r = accepted-same (b .rest) in
           rw (← q) (
@@ -114,20 +114,20 @@ module _ {A : Type 0} (put : Node → List A) where
 
       operator-wrote : (tree : ℕ → List A → Outcome (Tree × ℕ × List A)) → Wrote tree → (of : Members → Tree) (node : ℕ → Node) → ((ts : Members) → nodes (of ts) ≡ node (count ts) ∷ nodes-all ts)
           → (n done : ℕ) (s rest : List A) (r : Tree × ℕ × List A) → 1 ≤ n → s ≡ put (node n) ++ rest
-          → operator lists take-one of (read-members lists take-one tree (n - 1) done rest) ≡ accepted r → s ≡ puts (nodes (r .0)) ++ r .2
+          → operator test take-one of (read-members test take-one tree (n - 1) done rest) ≡ accepted r → s ≡ puts (nodes (r .0)) ++ r .2
       unfolding operator
       operator-wrote tree h of node ns n done s rest r h₁ f e =
-          let a = bound (read-members lists take-one tree (n - 1) done rest) _ r e in
+          let a = bound (read-members test take-one tree (n - 1) done rest) _ r e in
           let x = members-wrote tree h (n - 1) done rest (a .got) (a .first) in
           let q : (of (a .got .0), a .got .1, a .got .2) ≡ r = accepted-same (a .rest) in
           let c : n ≡ count (a .got .0) = omega (arith, x .1) in
           rw (← q, ns (a .got .0)) (behind (node (count (a .got .0))) s rest (nodes-all (a .got .0)) (a .got .2) (f ∙ ap (λ (k : ℕ). put (node k) ++ rest) c) (x .0))
 
       below-wrote : (tree : ℕ → List A → Outcome (Tree × ℕ × List A)) → Wrote tree → (n : Node) → Few n → (done : ℕ) (s rest : List A) (r : Tree × ℕ × List A) → s ≡ put n ++ rest
-          → read-below lists take-one tree n done rest ≡ accepted r → s ≡ puts (nodes (r .0)) ++ r .2
+          → read-below test take-one tree n done rest ≡ accepted r → s ≡ puts (nodes (r .0)) ++ r .2
       unfolding read-below nodes
       below-wrote tree h (Leaf k) w done s rest r f e =
-          let a = required 4 (ltb k lists) _ r e in
+          let a = both (test k) _ r e in
           let q : (leaf k, done, rest) ≡ r = accepted-same (a .1) in
           rw (← q) (behind (Leaf k) s rest [] rest f (unfold puts in refl))
       below-wrote tree h Difference w done s rest r f e =
@@ -139,13 +139,13 @@ module _ {A : Type 0} (put : Node → List A) where
       below-wrote tree h (Union n) w done s rest r f e = operator-wrote tree h union Union (λ ts. refl) n done s rest r (w .0) f e
       below-wrote tree h (Intersection n) w done s rest r f e = operator-wrote tree h intersection Intersection (λ ts. refl) n done s rest r (w .0) f e
 
-      was-written : (d : ℕ) → Wrote (read-tree lists take-one d)
+      was-written : (d : ℕ) → Wrote (read-tree test take-one d)
       unfolding read-tree
       was-written zero done s r e = never-accepted (required 2 (ltb done 48) _ r e .1)
       was-written (suc d) done s r e =
           let a = required 2 (ltb done 48) _ r e in
           let b = bound (take-one s) _ r (a .1) in
-          below-wrote (read-tree lists take-one d) (was-written d) (b .got .0) (few-nodes s (b .got) (b .first)) (suc done) s (b .got .1) r (was s (b .got) (b .first)) (b .rest)
+          below-wrote (read-tree test take-one d) (was-written d) (b .got .0) (few-nodes s (b .got) (b .first)) (suc done) s (b .got .1) r (was s (b .got) (b .first)) (b .rest)
 
 -- ---- the row form
 
@@ -202,19 +202,19 @@ byte-was (b ∷ bs) r e =
     rw (← q) (ap (λ (x : ℕ). x ∷ bs) (node-byte b (a .got) (a .first)))
 
 -- what is written as a row from an expression reads back as it
-pub row-written : (lists : ℕ) (t : Tree) → lists ≤ 32 → Expression lists t → read-row lists (row t) ≡ accepted t
+pub row-written : (test : Leaf-test) (t : Tree) → Narrow test → Expression test t → read-row test (row t) ≡ accepted t
 unfolding read-row row
-row-written lists t h x =
+row-written test t h x =
     let e : map row-byte (nodes t) ≡ puts put-byte (nodes t) ++ [] = row-puts (nodes t) ∙ sym (append-nil (puts put-byte (nodes t))) in
-    rw (e, reads-back put-byte lists take-byte h byte-back t 12 0 [] (x .levels) (omega (arith, x .nodes)) (x .named))
+    rw (e, reads-back put-byte test take-byte h byte-back t 12 0 [] (x .levels) (omega (arith, x .nodes)) (x .named))
 
 -- and a row that reads is the row of what it reads as
-pub row-same : (lists : ℕ) (bs : List ℕ) (t : Tree) → read-row lists bs ≡ accepted t → row t ≡ bs
+pub row-same : (test : Leaf-test) (bs : List ℕ) (t : Tree) → read-row test bs ≡ accepted t → row t ≡ bs
 unfolding read-row row
-row-same lists bs t e =
-    let a = bound (read-tree lists take-byte 12 0 bs) _ t e in
+row-same test bs t e =
+    let a = bound (read-tree test take-byte 12 0 bs) _ t e in
     let b = required 5 (eqb (length (a .got .2)) 0) _ t (a .rest) in
-    let w : bs ≡ puts put-byte (nodes (a .got .0)) ++ a .got .2 = was-written put-byte lists take-byte byte-was few-byte 12 0 bs (a .got) (a .first) in
+    let w : bs ≡ puts put-byte (nodes (a .got .0)) ++ a .got .2 = was-written put-byte test take-byte byte-was few-byte 12 0 bs (a .got) (a .first) in
     let n : a .got .2 ≡ [] = empty (a .got .2) (eqb-true (length (a .got .2)) 0 (b .0)) in
     row-puts (nodes t) ∙ ap (λ (u : Tree). puts put-byte (nodes u)) (sym (accepted-same (b .1))) ∙ sym (w ∙ ap (λ (l : List ℕ). puts put-byte (nodes (a .got .0)) ++ l) n ∙ append-nil (puts put-byte (nodes (a .got .0))))
   where
@@ -262,18 +262,18 @@ node-was s r e =
     kind-was (a .got .0) (field-lt 2 s (a .got) (a .first)) s (a .got .1) r (was-field 2 s (a .got) (a .first)) (a .rest)
 
 -- what is written packed from an expression reads back as it
-pub packed-written : (lists : ℕ) (t : Tree) → lists ≤ 32 → Expression lists t → read-packed lists (packed t) ≡ accepted t
+pub packed-written : (test : Leaf-test) (t : Tree) → Narrow test → Expression test t → read-packed test (packed t) ≡ accepted t
 unfolding read-packed packed
-packed-written lists t h x =
+packed-written test t h x =
     let f = filled (packed-nodes (nodes t)) in
     let e : bits (bytes (packed-nodes (nodes t))) ≡ puts packed-node (nodes t) ++ replicate (f .zeros-behind) false = f .are ∙ ap (λ (l : List Bool). l ++ replicate (f .zeros-behind) false) (packed-puts (nodes t)) in
-    rw (e, reads-back packed-node lists (take-node take-field) h node-back t 12 0 (replicate (f .zeros-behind) false) (x .levels) (omega (arith, x .nodes)) (x .named), fill-only (f .zeros-behind) (f .few))
+    rw (e, reads-back packed-node test (take-node take-field) h node-back t 12 0 (replicate (f .zeros-behind) false) (x .levels) (omega (arith, x .nodes)) (x .named), fill-only (f .zeros-behind) (f .few))
 
 -- and bytes that read are the bytes of what they read as
-pub packed-same : (lists : ℕ) (bs : List ℕ) (t : Tree) → Bytes bs → read-packed lists bs ≡ accepted t → packed t ≡ bs
+pub packed-same : (test : Leaf-test) (bs : List ℕ) (t : Tree) → Bytes bs → read-packed test bs ≡ accepted t → packed t ≡ bs
 unfolding read-packed packed
-packed-same lists bs t hb e =
-    let a = bound (read-tree lists (take-node take-field) 12 0 (bits bs)) _ t e in
+packed-same test bs t hb e =
+    let a = bound (read-tree test (take-node take-field) 12 0 (bits bs)) _ t e in
     let b = required 5 (only-fill (a .got .2)) _ t (a .rest) in
-    let w : bits bs ≡ puts packed-node (nodes (a .got .0)) ++ a .got .2 = was-written packed-node lists (take-node take-field) node-was few-packed 12 0 (bits bs) (a .got) (a .first) in
+    let w : bits bs ≡ puts packed-node (nodes (a .got .0)) ++ a .got .2 = was-written packed-node test (take-node take-field) node-was few-packed 12 0 (bits bs) (a .got) (a .first) in
     ap (λ (u : Tree). bytes (packed-nodes (nodes u))) (sym (accepted-same (b .1))) ∙ ap bytes (packed-puts (nodes (a .got .0))) ∙ bytes-are bs hb (puts packed-node (nodes (a .got .0))) (a .got .2) w (b .0)

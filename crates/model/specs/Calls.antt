@@ -14,7 +14,7 @@ use Rattle.model.specs.Expression.{size}
 use Rattle.model.specs.Sets.{all-numbers}
 use Rattle.model.specs.Machine.{encode}
 use Rattle.model.specs.Run.{Start, starting, run-of}
-use Rattle.model.specs.Forms.{row, packed, read-row, read-packed}
+use Rattle.model.specs.Forms.{row, packed, there, read-row, read-packed}
 use Rattle.model.specs.Delivery.{delivery, read-delivery}
 
 -- what a call sends back, from the struct that it hands back and its lent rows as it leaves them
@@ -63,7 +63,7 @@ laid-out ls = lend (all-numbers ls) (ends-from 0 ls)
 unfoldable pub unpack-expression : List ℕ → ℕ → List ℕ → Sent
 unpack-expression bytes lists lent = sent 1 (lent ∷ []) (do
   require 7 (count-holds lists)
-  t ← read-packed lists bytes
+  t ← read-packed (there lists) bytes
   require 6 (leb (size t) (length lent))
   accepted (record { parts = size t ∷ []; written = row t ∷ [] }))
 
@@ -71,7 +71,7 @@ unpack-expression bytes lists lent = sent 1 (lent ∷ []) (do
 unfoldable pub pack-expression : List ℕ → ℕ → List ℕ → Sent
 pack-expression bytes lists lent = sent 1 (lent ∷ []) (do
   require 7 (count-holds lists)
-  t ← read-row lists bytes
+  t ← read-row (there lists) bytes
   require 6 (leb (length (packed t)) (length lent))
   accepted (record { parts = length (packed t) ∷ []; written = packed t ∷ [] }))
 

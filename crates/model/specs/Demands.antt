@@ -13,7 +13,7 @@ use Rattle.model.specs.Sets.{among, member, all-numbers, members}
 use Rattle.model.specs.Machine.{calls, machine, encode}
 use Rattle.model.specs.Run.{Start, starting, Low, Result, run, Source, source-of, run-of}
 use Rattle.model.specs.Fields.{Bytes}
-use Rattle.model.specs.Forms.{read-packed}
+use Rattle.model.specs.Forms.{Leaf-test, there, read-packed}
 use Rattle.model.specs.Delivery.{read-delivery}
 use Rattle.model.specs.Calls.{laid-out, unpack-expression, pack-expression, decode-delivery, encode-delivery, run-parts, run-call}
 use Rattle.model.specs.Program.{halves, Listing}
@@ -35,23 +35,23 @@ unfoldable pub sum : List ℕ → ℕ
 sum [] = 0
 sum (n ∷ ns) = n + sum ns
 
--- every list number is there, and every union and intersection has 1 to 8 member nodes
+-- every list number may be named, and every union and intersection has 1 to 8 member nodes
 abbrev mutual
-  pub Named : ℕ → Tree → Type 0
-  Named lists (leaf k) = k < lists
-  Named lists (difference s t) = Named lists s × Named lists t
-  Named lists (union ts) = Named-all lists ts × (count ts ≤ 8)
-  Named lists (intersection ts) = Named-all lists ts × (count ts ≤ 8)
+  pub Named : Leaf-test → Tree → Type 0
+  Named test (leaf k) = test k ≡ accepted tt
+  Named test (difference s t) = Named test s × Named test t
+  Named test (union ts) = Named-all test ts × (count ts ≤ 8)
+  Named test (intersection ts) = Named-all test ts × (count ts ≤ 8)
 
-  pub Named-all : ℕ → Members → Type 0
-  Named-all lists (one t) = Named lists t
-  Named-all lists (more t ts) = Named lists t × Named-all lists ts
+  pub Named-all : Leaf-test → Members → Type 0
+  Named-all test (one t) = Named test t
+  Named-all test (more t ts) = Named test t × Named-all test ts
 
 -- "An expression is a tree of at most 48 nodes and depth 12"
-pub record Expression (lists : ℕ) (t : Tree) : Type 0 where
+pub record Expression (test : Leaf-test) (t : Tree) : Type 0 where
   pub nodes : size t ≤ 48
   pub levels : depth t ≤ 12
-  pub named : Named lists t
+  pub named : Named test t
 
 -- "the least width that holds the largest gap minus 1, and at least 1": w is that of m
 pub record Least-width (m w : ℕ) : Type 0 where
@@ -172,7 +172,7 @@ pub record Listed (input : List ℕ) (l : Listing) : Type 0 where
   pub is-stored : halves input ≡ accepted stored
   pub source : Source
   pub is-lists : read-delivery 4096 32 (stored .1) ≡ accepted (source .lists)
-  pub is-tree : read-packed (length (source .lists)) (stored .0) ≡ accepted (source .tree)
+  pub is-tree : read-packed (there (length (source .lists))) (stored .0) ≡ accepted (source .tree)
   pub ascend : ascending (l .members) ≡ true
   pub every : (x : ℕ) → among x (l .members) ≡ member (source .lists) (source .tree) x
   pub result : Result

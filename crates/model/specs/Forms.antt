@@ -81,8 +81,15 @@ module _ {S : Type 0} (take-bits : ℕ → S → Outcome (ℕ × S)) where
     (kind, rest) ← take-bits 2 source
     take-kind kind rest
 
+-- which list numbers a leaf may name, and what refuses the others: "4 list number not there"
+abbrev pub Leaf-test : Type 0
+Leaf-test = ℕ → Outcome (Unit {0})
+
+unfoldable pub there : ℕ → Leaf-test
+there lists k = require 4 (ltb k lists)
+
 -- Reading either form, from a source off which `take-one` takes one node
-module _ {S : Type 0} (lists : ℕ) (take-one : S → Outcome (Node × S)) where
+module _ {S : Type 0} (named : Leaf-test) (take-one : S → Outcome (Node × S)) where
   -- a tree, or member nodes, with how many nodes are read and the source behind them
   abbrev pub Reading : Type 0 → Type 0
   Reading A = Outcome (A × ℕ × S)
@@ -102,11 +109,9 @@ module _ {S : Type 0} (lists : ℕ) (take-one : S → Outcome (Node × S)) where
     (ts, done, rest) ← members
     accepted (of ts, done, rest)
 
-  -- what stands below a node; 4 for a list number that is not there
+  -- what stands below a node; at a leaf its test
   unfoldable pub read-below : (ℕ → S → Reading Tree) → Node → ℕ → S → Reading Tree
-  read-below tree (Leaf k) done source = do
-    require 4 (ltb k lists)
-    accepted (leaf k, done, source)
+  read-below tree (Leaf k) done source = named k >> accepted (leaf k, done, source)
   read-below tree Difference done source = do
     (s, done₁, source₁) ← tree done source
     (t, done₂, rest) ← tree done₁ source₁
@@ -125,14 +130,14 @@ module _ {S : Type 0} (lists : ℕ) (take-one : S → Outcome (Node × S)) where
     read-below (read-tree depth) node (suc done) rest
 
 -- "After the last: 5": of a row a node left over, of packed bits a whole byte or a fill bit of 1
-unfoldable pub read-row : ℕ → List ℕ → Outcome Tree
-read-row lists bs = do
-  (t, done, rest) ← read-tree lists take-byte 12 0 bs
+unfoldable pub read-row : Leaf-test → List ℕ → Outcome Tree
+read-row named bs = do
+  (t, done, rest) ← read-tree named take-byte 12 0 bs
   require 5 (eqb (length rest) 0)
   accepted t
 
-unfoldable pub read-packed : ℕ → List ℕ → Outcome Tree
-read-packed lists bs = do
-  (t, done, rest) ← read-tree lists (take-node take-field) 12 0 (bits bs)
+unfoldable pub read-packed : Leaf-test → List ℕ → Outcome Tree
+read-packed named bs = do
+  (t, done, rest) ← read-tree named (take-node take-field) 12 0 (bits bs)
   require 5 (only-fill rest)
   accepted t

@@ -8,7 +8,7 @@ use Rattle.model.specs.Expression.{Tree}
 use Rattle.model.specs.Sets.{members}
 use Rattle.model.specs.Machine.{next}
 use Rattle.model.specs.Run.{starting, run}
-use Rattle.model.specs.Forms.{read-packed}
+use Rattle.model.specs.Forms.{there, read-packed}
 use Rattle.model.specs.Delivery.{read-delivery}
 
 -- "one byte, the expression's length; the expression; the delivery"; 1 for a missing length byte or a short expression
@@ -33,7 +33,7 @@ listing input = do
   require 6 (leb (length input) 65535)
   (expression, stored) ← halves input
   ls ← read-delivery 4096 32 stored
-  t ← read-packed (length ls) expression
+  t ← read-packed (there (length ls)) expression
   accepted (listing-of ls t)
 
 -- what success sends back: how many members, the moves; the members in a lent row, for which it may be too short (6)

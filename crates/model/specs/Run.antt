@@ -11,7 +11,7 @@ use Rattle.model.specs.Lists.{top, Lent, lists-of}
 use Rattle.model.specs.Expression.{Tree}
 use Rattle.model.specs.Machine.{Call, next, at-or-past, past, check, other, calls}
 use Rattle.model.specs.Steps.{Readers, Found, end, at, Checked, says, seek, check-node}
-use Rattle.model.specs.Forms.{read-packed}
+use Rattle.model.specs.Forms.{Leaf-test, there, read-packed}
 
 -- what one call leaves to the next: floor, places and moves
 pub record State : Type 0 where
@@ -75,10 +75,14 @@ pub record Source : Type 0 where
   pub lists : List (List ℕ)
   pub tree : Tree
 
+-- what a leaf may name over them: "list number not there" is 4
+abbrev pub named-in : Lent → Leaf-test
+named-in l = there (length (l .ends))
+
 unfoldable pub source-of : Lent → List ℕ → Outcome Source
 source-of l expression = do
   ls ← lists-of l
-  t ← read-packed (length (l .ends)) expression
+  t ← read-packed (named-in l) expression
   accepted (record { lists = ls; tree = t })
 
 -- "A run takes, in this order of checking: lists [..], the packed expression [..], bookmark (12), row lengths (13)";

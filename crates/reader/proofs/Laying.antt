@@ -2,14 +2,15 @@
 -- Assumes nothing.
 use mathlib.Core.Path.{_≡_, refl, sym, _∙_}
 use mathlib.Core.List.{List, [], _∷_, _++_, map}
-use Prim.Native.Nat.{ℕ, suc, _+_, _-_, _≤_}
+use Prim.Native.Nat.{ℕ, suc, _+_, _-_, _≤_, _<_}
 use native.Mathlib.Nat.{add-zero}
 use native.Mathlib.Omega.{arith}
 use lib.ListN.{length, getD, replicate, length-map}
 use Rattle.model.specs.declared.Node.{Node}
 use Rattle.model.specs.declared.Node.the-variants.{Leaf, Difference, Union, Intersection}
+use Rattle.model.specs.Outcome.{accepted}
 use Rattle.model.specs.Expression.{Tree, leaf, difference, union, intersection, Members, one, more, size, sizes, count}
-use Rattle.model.specs.Forms.{nodes, nodes-all, row-byte, row}
+use Rattle.model.specs.Forms.{nodes, nodes-all, row-byte, row, Leaf-test}
 use Rattle.model.specs.Demands.{Named, Named-all, Expression}
 use Rattle.model.proofs.Shape.{row-long}
 use Rattle.model.proofs.Trees.{Writable, count-pos, byte-node}
@@ -38,20 +39,20 @@ lies-tree bytes i t ns h = rw (← nodes-long t) (lies-append bytes i (nodes t) 
 is-node : (bytes : List ℕ) (i : ℕ) (n : Node) → Writable n → suc i ≤ 48 → getD bytes i 0 ≡ row-byte n → Is bytes i n
 is-node bytes i n w h e = (h, rw e (byte-node n w))
 
-module _ (lists : ℕ) (few : lists ≤ 32) (bytes : List ℕ) where
+module _ (test : Leaf-test) (lists : ℕ) (within : (k : ℕ) → test k ≡ accepted tt → k < lists) (few : lists ≤ 32) (bytes : List ℕ) where
   -- wherever in a row of 48 the row of a tree lies, the tree stands
   mutual
     unfolding nodes size Stands
 
-    pub stands : (t : Tree) (i : ℕ) → i + size t ≤ 48 → Named lists t → Lies bytes i (nodes t) → Stands lists bytes t i
-    stands (leaf k) i h n l = (is-node bytes i (Leaf k) (omega arith) (omega arith) (l .0), n)
+    pub stands : (t : Tree) (i : ℕ) → i + size t ≤ 48 → Named test t → Lies bytes i (nodes t) → Stands lists bytes t i
+    stands (leaf k) i h n l = (is-node bytes i (Leaf k) (omega (arith, within k n)) (omega arith) (l .0), within k n)
     stands (difference s t) i h n l =
         let a = lies-tree bytes (1 + i) s (nodes t) (l .1) in
         (is-node bytes i Difference tt (omega arith) (l .0), (stands s (1 + i) (omega arith) (n .0) (a .0), stands t (1 + i + size s) (omega arith) (n .1) (a .1)))
     stands (union ts) i h n l = (is-node bytes i (Union (count ts)) (count-pos ts, n .1) (omega arith) (l .0), stand-all ts (1 + i) (omega arith) (n .0) (l .1))
     stands (intersection ts) i h n l = (is-node bytes i (Intersection (count ts)) (count-pos ts, n .1) (omega arith) (l .0), stand-all ts (1 + i) (omega arith) (n .0) (l .1))
 
-    pub stand-all : (ts : Members) (i : ℕ) → i + sizes ts ≤ 48 → Named-all lists ts → Lies bytes i (nodes-all ts) → Stand-all lists bytes ts i
+    pub stand-all : (ts : Members) (i : ℕ) → i + sizes ts ≤ 48 → Named-all test ts → Lies bytes i (nodes-all ts) → Stand-all lists bytes ts i
     stand-all (one t) i h n l = stands t i h n l
     stand-all (more t ts) i h n l =
         let a = lies-tree bytes i t (nodes-all ts) l in
@@ -68,7 +69,7 @@ pub lies-first : (ns : List Node) (rest : List ℕ) → Lies (map row-byte ns ++
 lies-first [] rest = tt
 lies-first (n ∷ ns) rest = (refl, lies-further (row-byte n) (map row-byte ns ++ rest) 0 ns (lies-first ns rest))
 
--- an expression stands at the start of its row
-pub row-stands : (lists : ℕ) (t : Tree) → lists ≤ 32 → Expression lists t → Stands lists (row t ++ replicate (48 - size t) 0) t 0
+-- an expression whose list numbers are there stands at the start of its row
+pub row-stands : (test : Leaf-test) (lists : ℕ) (t : Tree) → ((k : ℕ) → test k ≡ accepted tt → k < lists) → lists ≤ 32 → Expression test t → Stands lists (row t ++ replicate (48 - size t) 0) t 0
 unfolding row
-row-stands lists t few x = stands lists few (row t ++ replicate (48 - size t) 0) t 0 (omega (arith, x .nodes)) (x .named) (lies-first (nodes t) (replicate (48 - size t) 0))
+row-stands test lists t within few x = stands test lists within few (row t ++ replicate (48 - size t) 0) t 0 (omega (arith, x .nodes)) (x .named) (lies-first (nodes t) (replicate (48 - size t) 0))

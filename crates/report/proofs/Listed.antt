@@ -11,14 +11,14 @@ use lib.ListN.{length, getD, take, drop, length-take}
 use lib.Seq.{take-append-seam}
 use Rattle.model.specs.declared.MembersResult.{MembersResult}
 use Rattle.model.specs.Outcome.{Outcome, refused, accepted, _>>=_, _>>_, require, Sent, over, sent}
-use Rattle.model.specs.Forms.{read-packed}
+use Rattle.model.specs.Forms.{there, read-packed}
 use Rattle.model.specs.Delivery.{read-delivery}
 use Rattle.model.specs.Calls.{counted}
 use Rattle.model.specs.Program.{halves, Listing, listing-of, listing, listed, list-members}
 use Rattle.model.proofs.Accepted.{never-accepted}
 use Rattle.model.proofs.Denoted.{members-few}
 use Rattle.model.proofs.Deliveries.{delivery-holds}
-use Rattle.model.proofs.Told.{Told, told-right, told-by, told-then, told-test, packed-told, delivery-told}
+use Rattle.model.proofs.Told.{Told, told-right, told-by, told-then, told-test, there-told, packed-told, delivery-told}
 use Rattle.report.specs.Text.{line, lines, refused-word, moves-word, text}
 
 -- ---- a listing has at most 4,096 members, as its delivery has numbers
@@ -40,7 +40,7 @@ few-right k h = record { few = λ l e. let same : k ≡ l = cc in omega (arith, 
 listing-few : (input : List ℕ) → Few (listing input)
 unfolding listing listing-of
 listing-few input =
-    few-test 6 (leb (length input) 65535) _ (few-then (halves input) _ (λ hs _. few-then (read-delivery 4096 32 (hs .1)) _ (λ ls d. few-then (read-packed (length ls) (hs .0)) _
+    few-test 6 (leb (length input) 65535) _ (few-then (halves input) _ (λ hs _. few-then (read-delivery 4096 32 (hs .1)) _ (λ ls d. few-then (read-packed (there (length ls)) (hs .0)) _
     (λ t _. few-right (listing-of ls t) (omega (arith, members-few ls t 0, delivery-holds 4096 32 (hs .1) ls d .numbers))))))
 
 -- ---- a refusal's number is not 0
@@ -54,7 +54,7 @@ listing-told : (input : List ℕ) → Told (listing input)
 unfolding listing
 listing-told input =
     told-test 6 (leb (length input) 65535) _ (omega arith) (told-then (halves input) _ (halves-told input) (λ hs. told-then (read-delivery 4096 32 (hs .1)) _ (delivery-told 4096 32 (hs .1)) (λ ls.
-    told-then (read-packed (length ls) (hs .0)) _ (packed-told (length ls) (hs .0)) (λ t. told-right))))
+    told-then (read-packed (there (length ls)) (hs .0)) _ (packed-told (there (length ls)) (there-told (length ls)) (hs .0)) (λ t. told-right))))
 
 -- ---- what is handed back
 

@@ -9,14 +9,14 @@ use Rattle.model.specs.declared.RunResult.{RunResult}
 use Rattle.model.specs.Outcome.{number-of, Sent}
 use Rattle.model.specs.Lists.{Lent, lend, lists-of}
 use Rattle.model.specs.Run.{starting}
-use Rattle.model.specs.Forms.{read-packed}
+use Rattle.model.specs.Forms.{there, read-packed}
 use Rattle.model.specs.Calls.{ran, ran-refused, run-call}
 use Rattle.model.specs.Demands.{Third-demand-met}
 use Rattle.model.proofs.DemandThree.{third}
-use Rattle.model.proofs.Told.{Success-of}
+use Rattle.model.proofs.Told.{Success-of, refused-by}
 use Rattle.lists.proofs.Spans.{readable, passed as lists-passed}
 use Rattle.reader.specs.Rows.{Stands}
-use Rattle.engine.proofs.Whole.{refused-by, expression-passes, read-number, read-stands, lists-few, refuses-lists, refuses-expression, refuses-bookmark, refuses-unpaired, refuses-short, accepts}
+use Rattle.engine.proofs.Whole.{expression-passes, read-number, read-stands, lists-few, refuses-lists, refuses-expression, refuses-bookmark, refuses-unpaired, refuses-short, accepts}
 use Rattle.engine.proofs.run.Statement.{statement}
 use Rattle.engine.proofs.run.Tie as tie
 
@@ -32,7 +32,7 @@ pass : (c : tie.Else1) → number-of (lists-of (lent (c .before))) ≡ 0
 pass c = sym (c .before .test-lists .ensures) ∙ c .if1 .left
 
 -- a tree was read
-read : (c : tie.Else2) → let args = entry (c .before .before .before .before) .args in Success-of (read-packed (length (args .ends .now)) (args .packed .now))
+read : (c : tie.Else2) → let args = entry (c .before .before .before .before) .args in Success-of (read-packed (there (length (args .ends .now))) (args .packed .now))
 read c =
     let e = c .before .before in
     let args = entry (e .before .before) .args in
@@ -89,7 +89,7 @@ returns-2 c =
     let n = read-number _ (e .read-expression .ensures) in
     met (e .before .before) _ (
     handed (args .replies .now) (c .refused2 .ensures ∙ ap ran-refused n)
-    ∙ refuses-expression _ _ _ _ _ _ _ (lists-passed _ (pass (e .before))) _ (refused-by (read-packed (length (args .ends .now)) (args .packed .now)) (λ z. c .before .if2 .taken (n ∙ z))))
+    ∙ refuses-expression _ _ _ _ _ _ _ (lists-passed _ (pass (e .before))) _ (refused-by (read-packed (there (length (args .ends .now))) (args .packed .now)) (λ z. c .before .if2 .taken (n ∙ z))))
 
 refused-requires-3 : tie.Need-refused-requires-3
 refused-requires-3 c κs = search needs

@@ -7,14 +7,16 @@ use borrow.Author.Needs.{needs}
 use borrow.Author.Tests.{not-true, not-false}
 use native.Mathlib.Omega.{arith}
 use Rattle.model.specs.Outcome.{refused, accepted, number-of}
+use Rattle.model.specs.Forms.{there}
+use Rattle.model.proofs.Told.{there-told}
 use Rattle.expression.specs.Reading.{step-says, take-in}
 use Rattle.expression.proofs.Positions.{few-members, node-taken}
-use Rattle.expression.proofs.Turns.{Held, begin, close, at-1, at-2, at-3, at-4, at-5, step, whole}
+use Rattle.expression.proofs.Turns.{Held, begin, close, at-1, at-2, at-3, at-leaf, at-5, step, whole, passes, fails}
 use Rattle.expression.proofs.read_expression.Statement.{statement}
 use Rattle.expression.proofs.read_expression.Tie as tie
 
 abbrev Inv-loop : tie.InvT-loop
-Inv-loop form s lists nodes₀ left₀ depth₀ done₀ at₀ nodes left depth done at = Held form lists s nodes left depth done at
+Inv-loop form s lists nodes₀ left₀ depth₀ done₀ at₀ nodes left depth done at = Held form (there lists) s nodes left depth done at
 
 abbrev μ-loop : tie.MeasureT-loop
 μ-loop form s lists nodes₀ left₀ depth₀ done₀ at₀ nodes left depth done at = 3 * (48 - done) + depth
@@ -23,7 +25,7 @@ array-write-left : tie.Need-array-write-left Inv-loop μ-loop
 array-write-left c = search needs
 
 loop-holds : tie.Need-loop-holds Inv-loop μ-loop
-loop-holds c = begin (c .before .args .form) (c .before .args .lists) (c .before .args .s .now)
+loop-holds c = begin (c .before .args .form) (there (c .before .args .lists)) (c .before .args .s .now)
 
 sub-level : tie.Need-sub-level Inv-loop μ-loop
 sub-level c = search needs
@@ -85,8 +87,8 @@ node-got : (c : tie.After-known-told Inv-loop μ-loop) → let g = c .before .be
     take-in (p .before .before .args .form) (p .before .before .args .s .now) (p .loop .at) ≡ accepted (c .before .got .given .0 .0, c .before .got .given .0 .1 .0)
 node-got c = sym (c .before .before .before .read-node .ensures) ∙ ap step-says (c .before .got .given .1)
 
-is-named-requires : tie.Need-is-named-requires Inv-loop μ-loop
-is-named-requires c κs = search needs
+test-leaf-requires : tie.Need-test-leaf-requires Inv-loop μ-loop
+test-leaf-requires c κs = search needs
 
 refused-requires-4 : tie.Need-refused-requires-4 Inv-loop μ-loop
 refused-requires-4 c κs = search needs
@@ -95,7 +97,8 @@ returns-4 : tie.Need-returns-4 Inv-loop μ-loop
 returns-4 c =
     let k = c .before .before .before in
     let u = k .before .before .before .before .before .before in
-    c .refused4 .ensures ∙ sym (at-4 (u .before .before .loop .inv) (u .before .loop-test .taken) (u .if1 .left) (omega arith) (omega arith) (node-got k) (sym (c .before .before .is-named .ensures) ∙ not-true _ (c .before .if4 .taken)))
+    let lists = u .before .before .before .before .args .lists in
+    c .refused4 .ensures ∙ sym (at-leaf (u .before .before .loop .inv) (u .before .loop-test .taken) (u .if1 .left) (omega arith) (omega arith) (node-got k) (fails (there lists) (there-told lists) (k .before .got .given .0 .0) (c .before .before .test-leaf .ensures) (c .before .if4 .taken)))
 
 array-read-left : tie.Need-array-read-left Inv-loop μ-loop
 array-read-left c = omega arith
@@ -134,7 +137,8 @@ loop-again-2 : tie.Need-loop-again-2 Inv-loop μ-loop
 loop-again-2 c =
     let k = c .before .before .before .before in
     let u = k .before .before .before .before .before .before in
-    rw (c .byte-of .ensures, c .before .members-of .ensures) (step (u .before .before .loop .inv) (u .before .loop-test .taken) (u .if1 .left) (omega arith) (omega arith) (node-got k) (sym (c .before .before .before .is-named .ensures) ∙ not-false _ (c .before .before .if4 .left)))
+    let lists = u .before .before .before .before .args .lists in
+    rw (c .byte-of .ensures, c .before .members-of .ensures) (step (u .before .before .loop .inv) (u .before .loop-test .taken) (u .if1 .left) (omega arith) (omega arith) (node-got k) (passes (there lists) (there-told lists) (k .before .got .given .0 .0) (c .before .before .before .test-leaf .ensures) (c .before .before .if4 .left)))
 
 ended-requires : tie.Need-ended-requires Inv-loop μ-loop
 ended-requires c κs = omega arith
@@ -174,7 +178,7 @@ read-expression-spec =
     number-of-requires
     refused-requires-3
     returns-3
-    is-named-requires
+    test-leaf-requires
     refused-requires-4
     returns-4
     array-read-left

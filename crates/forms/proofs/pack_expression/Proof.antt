@@ -16,11 +16,12 @@ use Rattle.model.specs.declared.WriteResult.{WriteResult}
 use Rattle.model.specs.Lists.{count-holds}
 use Rattle.model.specs.Expression.{Tree}
 use Rattle.model.specs.Fields.{field, bytes}
-use Rattle.model.specs.Forms.{row, packed, read-row}
+use Rattle.model.specs.Forms.{row, packed, there, read-row}
 use Rattle.model.specs.Calls.{written-refused, written}
-use Rattle.model.proofs.Accepted.{row-reads}
+use Rattle.model.proofs.Accepted.{there-narrow, row-reads}
 use Rattle.fields.specs.Positions.{put-bits}
 use Rattle.fields.proofs.Puts.{bytes-length}
+use Rattle.lists.proofs.Spans.{counts}
 use Rattle.forms.specs.Packing.{row-bits}
 use Rattle.forms.proofs.Nodes.{row-few}
 use Rattle.forms.proofs.Whole.{of-read, Handed, handed, sends-refusal, sends-short, sends-all, pack-wrong, pack-on, packed-of, put-filled}
@@ -29,10 +30,10 @@ use Rattle.forms.proofs.pack_expression.Tie as tie
 
 -- what was read
 abbrev got : tie.After-read-expression → Outcome Tree
-got c = let args = c .before .before .before .before .before .args in read-row (args .lists) (args .row .now)
+got c = let args = c .before .before .before .before .before .args in read-row (there (args .lists)) (args .row .now)
 
 read : (c : tie.After-read-expression) → Handed (got c) (c .read-expression .result)
-read c = let args = c .before .before .before .before .before .args in handed (got c) (row-reads (args .lists) (args .row .now)) (c .read-expression .ensures)
+read c = let args = c .before .before .before .before .before .args in handed (got c) (row-reads (there (args .lists)) (args .row .now)) (c .read-expression .ensures)
 
 -- 7 does not apply
 holds : (c : tie.Else1) → count-holds (c .before .before .before .before .args .lists) ≡ true
@@ -43,7 +44,7 @@ abbrev bits : tie.After-read-expression → List Bool
 bits c = row-bits (of-read row (got c))
 
 bytes-are : (c : tie.After-read-expression) → bytes (bits c) ≡ of-read packed (got c)
-bytes-are c = let args = c .before .before .before .before .before .args in packed-of (got c) (row-reads (args .lists) (args .row .now)) (holds (c .before))
+bytes-are c = let args = c .before .before .before .before .before .args in packed-of (got c) (row-reads (there (args .lists)) (args .row .now)) (there-narrow (args .lists) (counts (args .lists) (holds (c .before)) .1))
 
 -- how many of each
 record Counted (c : tie.After-read-expression) (n : ℕ) : Type 0 where

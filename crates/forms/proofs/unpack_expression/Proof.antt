@@ -14,7 +14,7 @@ use Rattle.model.specs.Outcome.{Outcome}
 use Rattle.model.specs.declared.WriteResult.{WriteResult}
 use Rattle.model.specs.Lists.{count-holds}
 use Rattle.model.specs.Expression.{Tree, size}
-use Rattle.model.specs.Forms.{row, read-packed}
+use Rattle.model.specs.Forms.{row, there, read-packed}
 use Rattle.model.specs.Calls.{written-refused, written}
 use Rattle.model.proofs.Accepted.{packed-reads}
 use Rattle.model.proofs.Shape.{row-long}
@@ -25,10 +25,10 @@ use Rattle.forms.proofs.unpack_expression.Tie as tie
 
 -- what was read
 abbrev got : tie.After-read-expression → Outcome Tree
-got c = let args = c .before .before .before .before .before .args in read-packed (args .lists) (args .bytes .now)
+got c = let args = c .before .before .before .before .before .args in read-packed (there (args .lists)) (args .bytes .now)
 
 read : (c : tie.After-read-expression) → Handed (got c) (c .read-expression .result)
-read c = let args = c .before .before .before .before .before .args in handed (got c) (packed-reads (args .lists) (args .bytes .now)) (c .read-expression .ensures)
+read c = let args = c .before .before .before .before .before .args in handed (got c) (packed-reads (there (args .lists)) (args .bytes .now)) (c .read-expression .ensures)
 
 -- 7 does not apply
 holds : (c : tie.Else1) → count-holds (c .before .before .before .before .args .lists) ≡ true

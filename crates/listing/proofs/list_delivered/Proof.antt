@@ -11,13 +11,13 @@ use Rattle.model.specs.Outcome.{number-of}
 use Rattle.model.specs.Lists.{lists-from}
 use Rattle.model.specs.Run.{begin}
 use Rattle.model.specs.Sets.{members-from}
-use Rattle.model.specs.Forms.{read-packed}
+use Rattle.model.specs.Forms.{there, read-packed}
 use Rattle.model.specs.Calls.{counted, counted-refused}
-use Rattle.model.proofs.Told.{Success-of}
+use Rattle.model.proofs.Told.{Success-of, refused-by}
 use Rattle.fields.specs.Rows.{lay}
 use Rattle.reader.proofs.Moves.{none-moved}
 use Rattle.reader.specs.Rows.{Stands}
-use Rattle.engine.proofs.Whole.{refused-by, expression-passes, read-number, read-stands}
+use Rattle.engine.proofs.Whole.{expression-passes, read-number, read-stands}
 use Rattle.listing.proofs.Whole.{moves-of, over-refuses, over-short, over-lists, All-drawn, draws-all}
 use Rattle.listing.proofs.list_delivered.Statement.{statement}
 use Rattle.listing.proofs.list_delivered.Tie as tie
@@ -26,7 +26,7 @@ abbrev entry : tie.After-read-expression → tie.Start
 entry c = c .before .before .before .before .before
 
 -- a tree was read
-read : (c : tie.Else1) → let args = entry (c .before .before) .args in Success-of (read-packed (length (args .ends .now)) (args .packed .now))
+read : (c : tie.Else1) → let args = entry (c .before .before) .args in Success-of (read-packed (there (length (args .ends .now))) (args .packed .now))
 read c =
     let e = c .before .before in
     let args = entry e .args in
@@ -56,7 +56,7 @@ returns c =
     let args = entry e .args in
     let n = read-number _ (e .read-expression .ensures) in
     handed (args .members .now) (c .refused .ensures ∙ ap counted-refused n)
-    ∙ over-refuses _ _ _ _ _ (refused-by (read-packed (length (args .ends .now)) (args .packed .now)) (λ z. c .before .if1 .taken (n ∙ z)))
+    ∙ over-refuses _ _ _ _ _ (refused-by (read-packed (there (length (args .ends .now))) (args .packed .now)) (λ z. c .before .if1 .taken (n ∙ z)))
 
 node-ends-requires : tie.Need-node-ends-requires
 node-ends-requires c κs = search needs

@@ -10,9 +10,8 @@ use Rattle.model.specs.declared.MembersResult.{MembersResult}
 use Rattle.model.specs.Outcome.{number-of}
 use Rattle.model.specs.Delivery.{read-delivery}
 use Rattle.model.specs.Calls.{counted, counted-refused}
-use Rattle.model.proofs.Told.{Success-of, zero-accepts, delivery-told}
+use Rattle.model.proofs.Told.{Success-of, zero-accepts, refused-by, delivery-told}
 use Rattle.listing.specs.Over.{list-over}
-use Rattle.engine.proofs.Whole.{refused-by}
 use Rattle.listing.proofs.Whole.{first-part, second-part, refuses-size, refuses-none, refuses-short, refuses-delivery, goes-over, delivered-number, Laid-lists, lists-laid}
 use Rattle.listing.proofs.list_members.Statement.{statement}
 use Rattle.listing.proofs.list_members.Tie as tie
