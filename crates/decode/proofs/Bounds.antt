@@ -10,12 +10,13 @@ use lib.ListN.{length}
 use borrow.Author.Tests.{leb-true, ltb-true}
 use Rattle.model.specs.Outcome.{accepted}
 use Rattle.model.specs.Lists.{top}
-use Rattle.model.specs.Delivery.{largest-gap, width, read-gaps, read-list, read-lists}
+use Rattle.model.specs.Delivery
+use Rattle.model.specs.Delivery.{largest-gap, width, read-gaps}
 use Rattle.model.proofs.Accepted.{accepted-same, bound, required}
 use Rattle.fields.specs.Positions.{take-at}
 use Rattle.fields.proofs.Fields.{took}
-use Rattle.decode.specs.Heads.{Header, header-width, header-first, header, gap}
-use Rattle.decode.proofs.Reading.{follow, behind, list-is}
+use Rattle.decode.specs.Heads.{Header, header-width, header-first, header, gap, read-list, read-lists}
+use Rattle.decode.proofs.Reading.{follow, behind, header-is, list-is}
 
 -- the number behind `last`, and the position behind its gap
 pub record Next (s : List ℕ) (w last p x q : ℕ) : Type 0 where
@@ -67,9 +68,8 @@ first-next s (suc n) p r e h =
     record { near = omega (arith, t .next, b .near); inside = b .inside; counted = b .counted; wide = b .wide }
 
 pub header-next : (s : List ℕ) (room p : ℕ) (r : Header × ℕ) → header (take-at s) room p ≡ accepted r → Headed s (r .0 .count) 53 p r × (r .0 .count ≤ room) × (r .0 .count < 65536)
-unfolding header
 header-next s room p r e =
-    let a = bound (take-at s 16 p) _ r e in
+    let a = bound (take-at s 16 p) _ r (sym (header-is (take-at s) room p) ∙ e) in
     let t = took s 16 p (a .got) (a .first) in
     let b = required 6 (leb (a .got .0) room) _ r (a .rest) in
     let f = first-next s (a .got .0) (a .got .1) r (b .1) (omega (arith, t .next, t .inside)) in
@@ -132,7 +132,7 @@ pub record All (s : List ℕ) (n p : ℕ) (r : List (List ℕ) × ℕ) : Type 0 
   pub many : length (r .0) ≡ n
 
 pub lists-next : (s : List ℕ) (n room p : ℕ) (r : List (List ℕ) × ℕ) → read-lists (take-at s) n room p ≡ accepted r → p ≤ 8 * length s → All s n p r
-unfolding read-lists
+unfolding Delivery.read-lists
 lists-next s zero room p r e h = subst (All s 0 p) (accepted-same e) (record { near = omega arith; inside = h; many = refl })
 lists-next s (suc n) room p r e h =
     let a = bound (read-list (take-at s) room p) _ r e in

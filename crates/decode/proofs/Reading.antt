@@ -11,9 +11,10 @@ use borrow.Author.Tests.{le-leb, lt-leb}
 use Rattle.model.specs.Outcome.{Outcome, refused, accepted, _>>=_, _>>_, require}
 use Rattle.model.specs.Lists.{top}
 use Rattle.model.specs.Sets.{all-numbers}
-use Rattle.model.specs.Delivery.{largest-gap, width, read-gaps, read-later, read-body, read-list, read-lists}
+use Rattle.model.specs.Delivery
+use Rattle.model.specs.Delivery.{largest-gap, width, read-gaps, read-body}
 use Rattle.model.proofs.Accepted.{accepted-same, bound, assoc}
-use Rattle.decode.specs.Heads.{Header, header-width, header-first, header, gap}
+use Rattle.decode.specs.Heads.{Header, header-width, header-first, header, gap, read-list, read-lists}
 use Rattle.decode.specs.Answers.{only, total}
 
 -- ---- only a number about what was read
@@ -65,6 +66,11 @@ tested : {B C : Type 0} (n : ℕ) (b : Bool) (o : Outcome B) (g : B → Outcome 
 tested n true o g p e = e
 tested n false o g p e = refl
 
+-- a list that its numbers make as they are
+as-read : {A S : Type 0} (o : Outcome (A × S)) → (o >>= λ r. accepted (r .0, r .1)) ≡ o
+as-read (refused n) = refl
+as-read (accepted r) = refl
+
 module _ {S : Type 0} (take-bits : ℕ → S → Outcome (ℕ × S)) where
   -- ---- the header, and what follows it
 
@@ -80,21 +86,23 @@ module _ {S : Type 0} (take-bits : ℕ → S → Outcome (ℕ × S)) where
   abbrev pub behind : Header × S → Outcome (List ℕ × S)
   behind r = follow (r .0 .count) (r .0 .first) (r .0 .width) (r .1)
 
-  later-is : (n first : ℕ) (s : S) → (read-later take-bits n first s >>= λ r. accepted (first ∷ r .0, r .1)) ≡ (header-width take-bits n first s >>= behind)
-  unfolding read-later header-width follow
-  later-is zero first s = refl
-  later-is (suc n) first s =
-      assoc (take-bits 5 s) _ _ (λ x. follow (suc (suc n)) first (x .0 + 1) (x .1)) (λ x. assoc (read-gaps take-bits (x .0 + 1) (suc n) first (x .1)) _ _ _ (λ y. tested 9 (eqb (x .0 + 1) (width (largest-gap first (y .0)))) (accepted (y .0, y .1)) (λ r. accepted (first ∷ r .0, r .1)) _ refl))
-      ∙ sym (assoc (take-bits 5 s) _ _ _ (λ x. refl))
-
   body-is : (n : ℕ) (s : S) → read-body take-bits n s ≡ (header-first take-bits n s >>= behind)
-  unfolding read-body header-first follow
+  unfolding read-body header-first header-width follow
   body-is zero s = refl
-  body-is (suc n) s = sym (assoc (take-bits 32 s) _ _ _ (λ x. sym (later-is n (x .0) (x .1))))
+  body-is (suc zero) s = sym (assoc (take-bits 32 s) _ _ _ (λ x. refl))
+  body-is (suc (suc n)) s = sym (assoc (take-bits 32 s) _ _ _ (λ x. assoc (take-bits 5 (x .1)) _ _ _ (λ y. refl)))
+
+  -- the header by its first field
+  pub header-is : (room : ℕ) (s : S) → header take-bits room s ≡ (take-bits 16 s >>= λ x. (require 6 (leb (x .0) room) >> header-first take-bits (x .0) (x .1)))
+  unfolding header
+  header-is room s = assoc (take-bits 16 s) _ _ _ (λ x. refl)
 
   pub list-is : (room : ℕ) (s : S) → read-list take-bits room s ≡ (header take-bits room s >>= behind)
-  unfolding read-list header
-  list-is room s = sym (assoc (take-bits 16 s) _ _ _ (λ x. tested 6 (leb (x .0) room) (header-first take-bits (x .0) (x .1)) behind _ (sym (body-is (x .0) (x .1)))))
+  unfolding Delivery.read-list
+  list-is room s =
+      assoc (take-bits 16 s) _ _ (λ x. (require 6 (leb (x .0) room) >> read-body take-bits (x .0) (x .1))) (λ x. ap (λ (o : Outcome (List ℕ × S)). (require 6 (leb (x .0) room) >> o)) (as-read (read-body take-bits (x .0) (x .1))))
+      ∙ sym (assoc (take-bits 16 s) _ _ _ (λ x. tested 6 (leb (x .0) room) (header-first take-bits (x .0) (x .1)) behind _ (sym (body-is (x .0) (x .1)))))
+      ∙ ap (λ (o : Outcome (Header × S)). o >>= behind) (sym (header-is room s))
 
   pub list-short : (room : ℕ) (s : S) {k : ℕ} → header take-bits room s ≡ refused k → read-list take-bits room s ≡ refused k
   list-short room s e = list-is room s ∙ rw e
@@ -122,17 +130,17 @@ module _ {S : Type 0} (take-bits : ℕ → S → Outcome (ℕ × S)) where
   -- ---- one list, and those behind it
 
   pub lists-none : (n room : ℕ) (s : S) → n ≡ 0 → read-lists take-bits n room s ≡ accepted ([], s)
-  unfolding read-lists
+  unfolding Delivery.read-lists
   lists-none n room s e = rw e
 
   pub lists-stop : (n room : ℕ) (s : S) {k : ℕ} → 0 < n → read-list take-bits room s ≡ refused k → read-lists take-bits n room s ≡ refused k
-  unfolding read-lists
+  unfolding Delivery.read-lists
   lists-stop zero room s h e = absurd (omega arith)
   lists-stop (suc n) room s h e = rw e
 
   pub lists-more : (n room : ℕ) (s : S) {l : List ℕ} {r : S} → 0 < n → read-list take-bits room s ≡ accepted (l, r)
       → read-lists take-bits n room s ≡ (read-lists take-bits (n - 1) (room - length l) r >>= λ t. accepted (l ∷ t .0, t .1))
-  unfolding read-lists
+  unfolding Delivery.read-lists
   lists-more zero room s h e = absurd (omega arith)
   lists-more (suc n) room s {l} {r} h e =
       let pred : n ≡ suc n - 1 = omega arith in
@@ -148,7 +156,7 @@ module _ {S : Type 0} (take-bits : ℕ → S → Outcome (ℕ × S)) where
     pub read-rest : read-lists take-bits (n - 1) (room - length first) next ≡ accepted (rest, q)
 
   pub lists-first : (n room : ℕ) (s : S) (ls : List (List ℕ)) (q : S) → 0 < n → read-lists take-bits n room s ≡ accepted (ls, q) → Lists n room s ls q
-  unfolding read-lists
+  unfolding Delivery.read-lists
   lists-first zero room s ls q h e = absurd (omega arith)
   lists-first (suc n) room s ls q h e =
       let a = bound (read-list take-bits room s) _ (ls, q) e in

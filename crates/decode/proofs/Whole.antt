@@ -3,6 +3,7 @@
 use mathlib.Core.Path.{_≡_, refl, ap, _∙_}
 use mathlib.Core.Bool.{Bool, true, false}
 use mathlib.Core.List.{List}
+use mathlib.Core.Option.{some}
 use Prim.Native.Nat.{ℕ, _≤_, _<_}
 use native.Mathlib.Nat.{zero-add}
 use lib.ListN.{length, drop}
@@ -11,12 +12,13 @@ use Rattle.model.specs.Outcome.{Outcome, refused, accepted, _>>=_, _>>_, requir
 use Rattle.model.specs.Lists.{count-holds}
 use Rattle.model.specs.Sets.{all-numbers}
 use Rattle.model.specs.Fields.{bits, take-field, only-fill}
-use Rattle.model.specs.Delivery.{read-lists, read-delivery}
+use Rattle.model.specs.Delivery.{counted, read-in, read-delivery}
 use Rattle.model.specs.Calls.{delivered, ends-from, decode-delivery}
-use Rattle.model.proofs.Sources.{seen, lists-seen}
+use Rattle.model.proofs.Sources.{seen, lists-seen, counted-seen}
 use Rattle.fields.specs.Rows.{lay}
 use Rattle.fields.specs.Positions.{take-at}
 use Rattle.fields.proofs.Fields.{taken-there}
+use Rattle.decode.specs.Heads.{read-lists}
 
 module _ (s : List ℕ) (numbers-room ends-room : ℕ) where
   -- the bits from a position on
@@ -24,7 +26,7 @@ module _ (s : List ℕ) (numbers-room ends-room : ℕ) where
   from q = drop q (bits s)
 
   pub reads-no-number : {k : ℕ} → take-at s 6 0 ≡ refused k → read-delivery numbers-room ends-room s ≡ refused k
-  unfolding read-delivery seen
+  unfolding read-delivery read-in seen
   reads-no-number e = rw (taken-there s 6 0 ∙ ap (seen from) e)
 
   module _ {n p : ℕ} (e : take-at s 6 0 ≡ accepted (n, p)) where
@@ -33,18 +35,18 @@ module _ (s : List ℕ) (numbers-room ends-room : ℕ) where
     number-read = taken-there s 6 0 ∙ ap (seen from) e
 
     pub reads-wrong-number : count-holds n ≡ false → read-delivery numbers-room ends-room s ≡ refused 7
-    unfolding read-delivery
+    unfolding read-delivery read-in
     reads-wrong-number h = rw (number-read, h)
 
     pub reads-too-many : count-holds n ≡ true → ends-room < n → read-delivery numbers-room ends-room s ≡ refused 6
-    unfolding read-delivery
+    unfolding read-delivery read-in
     reads-too-many h l = rw (number-read, h, lt-leb n ends-room l)
 
     pub reads-on : count-holds n ≡ true → n ≤ ends-room → {o : Outcome (List (List ℕ) × ℕ)} → read-lists (take-at s) n numbers-room p ≡ o
         → read-delivery numbers-room ends-room s ≡ (o >>= λ r. (require 5 (only-fill (from (r .1))) >> accepted (r .0)))
-    unfolding read-delivery seen
+    unfolding read-delivery read-in seen
     reads-on h l {o} f =
-        rw (number-read, h, le-leb n ends-room l, lists-seen from (take-at s) take-field (taken-there-all) n numbers-room p, f) (turned o)
+        rw (number-read, h, le-leb n ends-room l, lists-seen from (take-at s) take-field taken-there-all counted (counted-seen from (take-at s) take-field taken-there-all) n (some numbers-room) p, f) (turned o)
       where
         taken-there-all : (w q : ℕ) → take-field w (from q) ≡ seen from (take-at s w q)
         taken-there-all w q = taken-there s w q

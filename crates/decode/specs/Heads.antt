@@ -1,9 +1,13 @@
--- The paper's list header and its gap, each as one step of reading. `Delivery.read-list` and `Delivery.read-gaps` are shown
--- to equal these one after the other.
+-- The form of the delivery that is read here, into rows that are lent; and the paper's list header and its gap, each as one
+-- step of reading. `read-list` and `Delivery.read-gaps` are shown to equal these one after the other.
+use mathlib.Core.List.{List}
+use mathlib.Core.Option.{some}
 use Prim.Native.Nat.{ℕ, zero, suc, _+_}
 use lib.Dec.{ltb, leb}
 use Rattle.model.specs.Outcome.{Outcome, accepted, _>>=_, _>>_, require}
 use Rattle.model.specs.Lists.{top}
+use Rattle.model.specs.Delivery
+use Rattle.model.specs.Delivery.{counted}
 
 -- what stands before the gaps of a list: its count, its first number (0 if it has none), the width of its gaps (0 if it
 -- has none)
@@ -13,6 +17,13 @@ pub record Header : Type 0 where
   pub width : ℕ
 
 module _ {S : Type 0} (take-bits : ℕ → S → Outcome (ℕ × S)) where
+  -- one list, and so many lists, with so much room for their numbers
+  abbrev pub read-list : ℕ → S → Outcome (List ℕ × S)
+  read-list room source = Delivery.read-list take-bits counted (some room) source
+
+  abbrev pub read-lists : ℕ → ℕ → S → Outcome (List (List ℕ) × S)
+  read-lists n room source = Delivery.read-lists take-bits counted n (some room) source
+
   -- "if 2 or more, 5 bits of width minus 1": of n numbers behind the first
   unfoldable pub header-width : ℕ → ℕ → S → Outcome (Header × S)
   header-width zero first source = accepted (record { count = 1; first = first; width = 0 }, source)
@@ -27,10 +38,10 @@ module _ {S : Type 0} (take-bits : ℕ → S → Outcome (ℕ × S)) where
     (first, rest) ← take-bits 32 source
     header-width n first rest
 
-  -- "Each list: 16 bits of count", and "6 for the numbers once its count is read"
+  -- what the form has ahead of a list's numbers, and "6 for the numbers once its count is read"
   unfoldable pub header : ℕ → S → Outcome (Header × S)
   header room source = do
-    (count, rest) ← take-bits 16 source
+    ((count, _), rest) ← counted .take-head take-bits source
     require 6 (leb count room)
     header-first count rest
 

@@ -6,10 +6,11 @@ use Prim.Native.Nat.{ℕ, _+_, _-_}
 use lib.ListN.{length}
 use Rattle.model.specs.Outcome.{accepted}
 use Rattle.model.specs.Sets.{all-numbers}
-use Rattle.model.specs.Delivery.{read-gaps, read-list, read-lists}
+use Rattle.model.specs.Delivery.{read-gaps}
 use Rattle.model.specs.Calls.{ends-from}
 use Rattle.fields.specs.Rows.{lay}
 use Rattle.fields.specs.Positions.{take-at}
+use Rattle.decode.specs.Heads.{read-list, read-lists}
 use Rattle.decode.specs.declared.Stored.{Stored}
 
 -- the n numbers behind `last` stand in the row from `from` on; r is the position behind them

@@ -1,15 +1,15 @@
 -- The lists from the k-th on, and rows that hold something for each of them. Assumes nothing.
 use mathlib.Core.Path.{_≡_, sym, ap, _∙_}
-use mathlib.Core.List.{List, [], _∷_, _++_}
+use mathlib.Core.List.{List, [], _∷_, _++_, flatMap}
 use Prim.Native.Nat.{ℕ, _+_, _-_, _≤_, _<_}
 use native.Mathlib.Omega.{arith}
 use lib.ListN.{length, getD, take, drop, set, length-append, length-take, drop-of-length-le}
 use lib.Seq.{set-getD, getD-at}
 use Rattle.model.specs.Lists.{part, lists-from}
-use Rattle.model.specs.Delivery.{list-bits, lists-bits}
 use Rattle.lists.proofs.Left.{left-cons}
 use Rattle.fields.specs.Rows.{lay}
 use Rattle.fields.proofs.Rows.{lay-cons, lay-drop}
+use Rattle.encode.specs.Measures.{list-bits, lists-bits}
 
 module _ (numbers ends : List ℕ) (start k : ℕ) where
   pub rest-more : k < length ends → lists-from numbers start (drop k ends) ≡ part numbers start (getD ends k 0) ∷ lists-from numbers (getD ends k 0) (drop (k + 1) ends)
@@ -21,7 +21,7 @@ module _ (numbers ends : List ℕ) (start k : ℕ) where
   rest-none h = rw (drop-of-length-le ends {i = k} h)
 
 pub bits-cons : (l : List ℕ) (ls : List (List ℕ)) → length (lists-bits (l ∷ ls)) ≡ length (list-bits l) + length (lists-bits ls)
-unfolding lists-bits
+unfolding flatMap
 bits-cons l ls = length-append (list-bits l) (lists-bits ls)
 
 -- a row in which x is said to stand at k, and xs behind it

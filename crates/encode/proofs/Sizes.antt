@@ -1,5 +1,5 @@
--- The bits of a list by its length, and the width of its gaps. Assumes nothing.
-use mathlib.Core.Path.{_≡_, refl, sym, ap, _∙_}
+-- The bits of a list by its length, and the width of its gaps, here where 16 bits of count stand ahead. Assumes nothing.
+use mathlib.Core.Path.{_≡_, refl, sym, ap, ap₂, _∙_}
 use mathlib.Core.Bool.{Bool, true}
 use mathlib.Core.List.{List, [], _∷_, _++_, append-nil}
 use Prim.Native.Nat.{ℕ, zero, suc, _+_, _-_, _*_, _^_, _≤_, _<_}
@@ -12,20 +12,17 @@ use borrow.Author.Tests.{ltb-true}
 use Rattle.model.specs.Outcome.{accepted}
 use Rattle.model.specs.Lists.{top, Numbers, rises, ascending}
 use Rattle.model.specs.Fields.{field}
-use Rattle.model.specs.Delivery.{largest-gap, width, gap-bits, later-bits, body-bits, list-bits}
+use Rattle.model.specs.Delivery
+use Rattle.model.specs.Delivery.{largest-gap, width, gap-bits, body-bits, counted, list-size}
 use Rattle.model.proofs.Order.{and-true}
 use Rattle.model.proofs.Accepted.{required, accepted-same}
 use Rattle.model.proofs.Bits.{field-length}
 use Rattle.model.proofs.Deliveries.{width-is}
+use Rattle.model.proofs.Sizes.{gaps-width, list-size-is as size-is}
 use Rattle.lists.specs.Rise.{largest, rise}
-use Rattle.encode.specs.Measures.{gap-width, list-size}
+use Rattle.encode.specs.Measures.{list-bits, gap-width}
 
 -- ---- the gaps
-
-pub gap-bits-length : (w last : ℕ) (xs : List ℕ) → length (gap-bits w last xs) ≡ w * length xs
-unfolding gap-bits
-gap-bits-length w last [] = sym (mul-zero w)
-gap-bits-length w last (x ∷ xs) = omega (arith, length-append (field w (x - last - 1)) (gap-bits w x xs), field-length w (x - last - 1), gap-bits-length w x xs, mul-suc w (length xs))
 
 -- one more field of w bits, of n
 pub more-bits : (w i n : ℕ) → i < n → w ≤ 32 → (w * (i + 1) ≡ w * i + w) × (w * (i + 1) ≤ w * n) × (w * n ≤ 32 * n)
@@ -64,57 +61,41 @@ risen l g e = let a = required 11 (ascending l) (accepted (largest l)) g (sym e)
 -- ---- the bits of a list
 
 pub bits-none : (l : List ℕ) → length l ≡ 0 → list-bits l ≡ field 16 (length l)
-unfolding list-bits body-bits
+unfolding Delivery.list-bits body-bits
 bits-none [] h = append-nil (field 16 0)
 bits-none (x ∷ l) h = absurd (omega arith)
 
 pub bits-one : (l : List ℕ) → length l ≡ 1 → list-bits l ≡ field 16 (length l) ++ field 32 (getD l 0 0)
-unfolding list-bits body-bits later-bits
+unfolding Delivery.list-bits body-bits
 bits-one [] h = absurd (omega arith)
-bits-one (x ∷ []) h = ap (λ (b : List Bool). field 16 1 ++ b) (append-nil (field 32 x))
+bits-one (x ∷ []) h = refl
 bits-one (x ∷ y ∷ l) h = absurd (omega arith)
 
 pub bits-more : (l : List ℕ) → 2 ≤ length l → list-bits l ≡ field 16 (length l) ++ (field 32 (getD l 0 0) ++ (field 5 (gap-width l - 1) ++ gap-bits (gap-width l) (getD l 0 0) (drop 1 l)))
-unfolding list-bits body-bits later-bits gap-width largest
+unfolding Delivery.list-bits body-bits gap-width largest
 bits-more [] h = absurd (omega arith)
 bits-more (x ∷ []) h = absurd (omega arith)
 bits-more (x ∷ y ∷ l) h = refl
 
-pub list-size-is : (l : List ℕ) → length (list-bits l) ≡ list-size (length l) (gap-width l)
-unfolding list-size
-list-size-is [] = ap length (bits-none [] refl) ∙ field-length 16 0
-list-size-is (x ∷ []) = ap length (bits-one (x ∷ []) refl) ∙ omega (arith, length-append (field 16 1) (field 32 x), field-length 16 1, field-length 32 x)
-list-size-is (x ∷ y ∷ l) =
-    let m : List ℕ = x ∷ y ∷ l in
-    let w : ℕ = gap-width m in
-    let g : List Bool = gap-bits w x (y ∷ l) in
-    let a : length (field 5 (w - 1) ++ g) ≡ 5 + w * suc (length l) = omega (arith, length-append (field 5 (w - 1)) g, field-length 5 (w - 1), gap-bits-length w x (y ∷ l)) in
-    let b : length (field 32 x ++ (field 5 (w - 1) ++ g)) ≡ 37 + w * suc (length l) = omega (arith, length-append (field 32 x) (field 5 (w - 1) ++ g), field-length 32 x) in
-    ap length (bits-more m (omega arith)) ∙ omega (arith, length-append (field 16 (length m)) (field 32 x ++ (field 5 (w - 1) ++ g)), field-length 16 (length m))
+width-same : (l : List ℕ) → gaps-width l ≡ gap-width l
+unfolding gaps-width gap-width largest
+width-same [] = refl
+width-same (x ∷ l) = refl
 
-pub size-small : (n w : ℕ) → n ≤ 65535 → w ≤ 32 → list-size n w ≤ 4194304
-unfolding list-size
-size-small zero w h l = omega arith
-size-small (suc zero) w h l = omega arith
-size-small (suc (suc n)) w h l = omega (arith, mul-le-mul-right (suc n) l)
+pub list-size-is : (l : List ℕ) → length (list-bits l) ≡ list-size 16 (length l) (gap-width l)
+list-size-is l = size-is counted l ∙ ap₂ (λ (head w : ℕ). list-size head (length l) w) (field-length 16 (length l)) (width-same l)
 
-pub size-some : (n w : ℕ) → 1 ≤ n → 48 ≤ list-size n w
+pub size-small : (n w : ℕ) → n ≤ 65535 → w ≤ 32 → list-size 16 n w ≤ 4194304
 unfolding list-size
-size-some zero w h = absurd (omega arith)
-size-some (suc zero) w h = omega arith
-size-some (suc (suc n)) w h = omega arith
+size-small n w h l = omega (arith, mul-le-mul-right (n - 1) l)
 
-pub size-more : (n w : ℕ) → 2 ≤ n → list-size n w ≡ 53 + w * (n - 1)
+pub size-some : (n w : ℕ) → 1 ≤ n → 48 ≤ list-size 16 n w
 unfolding list-size
-size-more zero w h = absurd (omega arith)
-size-more (suc zero) w h = absurd (omega arith)
-size-more (suc (suc n)) w h = let pred : suc n ≡ suc (suc n) - 1 = omega arith in ap (λ (k : ℕ). 53 + w * k) pred
+size-some n w h = omega arith
 
-pub size-any : (n w : ℕ) → 16 ≤ list-size n w
+pub size-any : (n w : ℕ) → 16 ≤ list-size 16 n w
 unfolding list-size
-size-any zero w = omega arith
-size-any (suc zero) w = omega arith
-size-any (suc (suc n)) w = omega arith
+size-any n w = omega arith
 
 -- ---- numbers that rise, one by one
 

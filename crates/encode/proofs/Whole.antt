@@ -2,7 +2,7 @@
 -- are put make it. Assumes nothing.
 use mathlib.Core.Path.{_≡_, ap₂, _∙_}
 use mathlib.Core.Bool.{Bool, true, false}
-use mathlib.Core.List.{List, [], _∷_, _++_}
+use mathlib.Core.List.{List, [], _∷_, _++_, flatMap}
 use Prim.Native.Nat.{ℕ, _+_, _-_, _*_, _/_, _≤_, _<_}
 use native.Mathlib.Omega.{arith}
 use lib.Dec.{leb}
@@ -11,21 +11,21 @@ use borrow.Author.Tests.{le-leb, lt-leb, leb-true}
 use Rattle.model.specs.Outcome.{over, sent}
 use Rattle.model.specs.Lists.{Numbers, all-ascending, part, lists-from, count-holds, ends-hold, lend, lists-of}
 use Rattle.model.specs.Fields.{Bytes, field, bytes}
-use Rattle.model.specs.Delivery.{lists-bits, delivery}
+use Rattle.model.specs.Delivery.{delivery, delivery-in}
 use Rattle.model.specs.Calls.{written, encode-delivery}
 use Rattle.model.proofs.Order.{and-true}
 use Rattle.model.proofs.Accepted.{numbers-part}
 use Rattle.model.proofs.Bits.{field-length}
 use Rattle.fields.specs.Positions.{put-bits}
 use Rattle.fields.proofs.Puts.{put-append, put-whole, bytes-length}
-use Rattle.encode.specs.Measures.{gap-width}
+use Rattle.encode.specs.Measures.{lists-bits, gap-width}
 use Rattle.encode.proofs.Sizes.{gap-width-wide, list-size-is, size-small}
 use Rattle.encode.proofs.Rest.{bits-cons}
 
 -- lists whose ends hold take few bits
 pub lists-small : (numbers : List ℕ) (start : ℕ) (ends : List ℕ) → Numbers numbers → ends-hold (length numbers) start ends ≡ true
     → length (lists-bits (lists-from numbers start ends)) ≤ 4194304 * length ends
-unfolding lists-from ends-hold part lists-bits
+unfolding lists-from ends-hold part flatMap
 lists-small numbers start [] h e = omega arith
 lists-small numbers start (stop ∷ ends) h e =
     let a = and-true (leb start stop) _ e in
@@ -68,14 +68,14 @@ module _ (numbers ends lent : List ℕ) where
 -- ---- the bytes
 
 pub delivery-length : (ls : List (List ℕ)) → length (delivery ls) ≡ (length (lists-bits ls) + 13) / 8
-unfolding delivery
+unfolding delivery delivery-in
 delivery-length ls = bytes-length (field 6 (length ls) ++ lists-bits ls) ∙ omega (arith, length-append (field 6 (length ls)) (lists-bits ls), field-length 6 (length ls))
 
 -- the number of lists, the lists, and the fill
 pub delivered : (s : List ℕ) (ls : List (List ℕ)) (k : ℕ) {a b c : List ℕ} {next : ℕ} → Bytes s → length (delivery ls) ≤ length s
     → a ≡ put-bits s 0 (field 6 (length ls)) → b ≡ put-bits a 6 (lists-bits ls) → next ≡ 6 + length (lists-bits ls) → c ≡ put-bits b next (field k 0) → next + k ≡ 8 * length (delivery ls)
     → c ≡ delivery ls ++ drop (length (delivery ls)) s
-unfolding delivery
+unfolding delivery delivery-in
 delivered s ls k {a} {b} {c} {next} h room ea eb en ec e =
     let n : List Bool = field 6 (length ls) in
     let six : 6 ≡ 0 + length n = omega (arith, field-length 6 (length ls)) in

@@ -6,9 +6,9 @@ use mathlib.Core.List.{List, map}
 use Prim.Native.Nat.{ℕ, _+_, _-_, _*_, _^_, _≤_, _<_}
 use lib.ListN.{length, getD, drop, replicate}
 use Rattle.model.specs.Lists.{rises, ascending, all-ascending, lists-from, ends-hold}
-use Rattle.model.specs.Delivery.{largest-gap, list-bits, lists-bits}
+use Rattle.model.specs.Delivery.{largest-gap}
 use Rattle.fields.specs.Rows.{lay}
-use Rattle.encode.specs.Measures.{gap-width}
+use Rattle.encode.specs.Measures.{list-bits, lists-bits, gap-width}
 
 -- the numbers of a list behind its first, as gaps of w bits
 pub record Gaps-fit (s : List ℕ) (at w : ℕ) (list : List ℕ) : Type 0 where

@@ -5,11 +5,11 @@ ghost use mathlib.Core.Bool.{true};
 ghost use Prim.Native.Nat.{_+_, _-_, _*_, _^_, _≤_, _<_};
 ghost use lib.ListN.{length, getD, drop};
 ghost use Rattle.model.specs.Lists.{lists-from, ends-hold, lend};
-ghost use Rattle.model.specs.Delivery.{gap-bits, list-bits, lists-bits};
+ghost use Rattle.model.specs.Delivery.{gap-bits, list-size};
 ghost use Rattle.model.specs.Calls.{written, encode-delivery};
 ghost use Rattle.fields.specs.Positions.{put-bits};
 ghost use Rattle.encode.specs.Fits.{Gaps-fit, List-fits, Lists-fit};
-ghost use Rattle.encode.specs.Measures.{list-size, measured};
+ghost use Rattle.encode.specs.Measures.{list-bits, lists-bits, measured};
 use lists::Rise;
 use model::WriteResult;
 
@@ -36,10 +36,10 @@ fn narrow(x: usize) -> u32
     x as u32
 }
 
-// How many bits a list of so many numbers takes, with gaps of w bits.
+// How many bits a list of so many numbers takes, 16 of them its count, with gaps of w bits.
 fn bits_of(count: usize, w: usize) -> usize
     requires { ⌜ (count ≤ 65535) × (w ≤ 32) ⌝ }
-    ensures { λ r. ⌜ r ≡ list-size count w ⌝ }
+    ensures { λ r. ⌜ r ≡ list-size 16 count w ⌝ }
 {
     if count == 0 {
         return 16;

@@ -12,6 +12,8 @@ pub mod Accepted
 pub mod DemandThree
 pub mod Fuel
 pub mod Deliveries
+pub mod Rooms
+pub mod Sizes
 pub mod Laid
 pub mod Listing
 pub mod Bits

@@ -4,6 +4,7 @@
 -- Assumes nothing.
 use mathlib.Core.Path.{_≡_, refl}
 use mathlib.Core.Bool.{Bool, true, false}
+use mathlib.Core.Option.{Option, none, some, Option·map}
 use Prim.Native.Nat.{ℕ, zero, suc, _+_, _-_}
 use lib.Dec.{ltb, leb, eqb}
 use lib.ListN.{length}
@@ -13,7 +14,7 @@ use Rattle.model.specs.Outcome.{Outcome, refused, accepted, _>>=_, _>>_,
 use Rattle.model.specs.Lists.{top}
 use Rattle.model.specs.Expression.{Tree, union, intersection, Members, one}
 use Rattle.model.specs.Forms.{take-rest, take-kind, take-node, Leaf-test, read-members, operator, read-below, read-tree}
-use Rattle.model.specs.Delivery.{largest-gap, width, read-gaps, read-later, read-body, read-list, read-lists}
+use Rattle.model.specs.Delivery.{largest-gap, width, read-gaps, read-body, Form, counted, read-list, read-lists}
 
 module _ {S T : Type 0} (see : S → T) where
   -- what was taken off the first source, with its place seen in the second
@@ -81,27 +82,31 @@ module _ {S T : Type 0} (see : S → T) (take-bits₁ : ℕ → S → Outcome (�
   gaps-seen w (suc n) last s = then see (take-bits₁ w s) _ _ (alike w s) (λ gap r. tested see 8 (ltb (last + gap + 1) top) _
       (then see (read-gaps take-bits₁ w n (last + gap + 1) r) _ _ (gaps-seen w n (last + gap + 1) r) (λ xs q. refl)))
 
-  pub later-seen : (n first : ℕ) (s : S) → read-later take-bits₂ n first (see s) ≡ seen see (read-later take-bits₁ n first s)
-  unfolding read-later seen
-  later-seen zero first s = refl
-  later-seen (suc n) first s = then see (take-bits₁ 5 s) _ _ (alike 5 s) (λ less r.
-      then see (read-gaps take-bits₁ (less + 1) (suc n) first r) _ _ (gaps-seen (less + 1) (suc n) first r) (λ xs q.
-      tested see 9 (eqb (less + 1) (width (largest-gap first xs))) _ refl))
-
   pub body-seen : (n : ℕ) (s : S) → read-body take-bits₂ n (see s) ≡ seen see (read-body take-bits₁ n s)
   unfolding read-body seen
   body-seen zero s = refl
-  body-seen (suc n) s = then see (take-bits₁ 32 s) _ _ (alike 32 s) (λ first r. then see (read-later take-bits₁ n first r) _ _ (later-seen n first r) (λ xs q. refl))
+  body-seen (suc zero) s = then see (take-bits₁ 32 s) _ _ (alike 32 s) (λ first r. refl)
+  body-seen (suc (suc n)) s = then see (take-bits₁ 32 s) _ _ (alike 32 s) (λ first r. then see (take-bits₁ 5 r) _ _ (alike 5 r) (λ less q.
+      then see (read-gaps take-bits₁ (less + 1) (suc n) first q) _ _ (gaps-seen (less + 1) (suc n) first q) (λ xs t.
+      tested see 9 (eqb (less + 1) (width (largest-gap first xs))) _ refl)))
 
-  pub list-seen : (room : ℕ) (s : S) → read-list take-bits₂ room (see s) ≡ seen see (read-list take-bits₁ room s)
-  unfolding read-list
-  list-seen room s = then see (take-bits₁ 16 s) _ _ (alike 16 s) (λ count r. tested see 6 (leb count room) _ (body-seen count r))
+  -- of a form whose heads are taken alike too
+  module _ {A : Type 0} (form : Form A) (head-seen : (s : S) → form .take-head take-bits₂ (see s) ≡ seen see (form .take-head take-bits₁ s)) where
+    pub list-seen : (room : Option ℕ) (s : S) → read-list take-bits₂ form room (see s) ≡ seen see (read-list take-bits₁ form room s)
+    unfolding read-list seen
+    list-seen room s = then see (form .take-head take-bits₁ s) _ _ (head-seen s) (λ h r.
+        tested see 6 (elim room [ none ↦ true | some k ↦ leb (h .0) k ]) _ (then see (read-body take-bits₁ (h .0) r) _ _ (body-seen (h .0) r) (λ xs q. refl)))
 
-  pub lists-seen : (n room : ℕ) (s : S) → read-lists take-bits₂ n room (see s) ≡ seen see (read-lists take-bits₁ n room s)
-  unfolding read-lists seen
-  lists-seen zero room s = refl
-  lists-seen (suc n) room s = then see (read-list take-bits₁ room s) _ _ (list-seen room s) (λ l r.
-      then see (read-lists take-bits₁ n (room - length l) r) _ _ (lists-seen n (room - length l) r) (λ ls q. refl))
+    pub lists-seen : (n : ℕ) (room : Option ℕ) (s : S) → read-lists take-bits₂ form n room (see s) ≡ seen see (read-lists take-bits₁ form n room s)
+    unfolding read-lists seen
+    lists-seen zero room s = refl
+    lists-seen (suc n) room s = then see (read-list take-bits₁ form room s) _ _ (list-seen room s) (λ l r.
+        let left : Option ℕ = Option·map (λ k. k - length (form .numbers-of l)) room in
+        then see (read-lists take-bits₁ form n left r) _ _ (lists-seen n left r) (λ ls q. refl))
+
+  pub counted-seen : (s : S) → counted .take-head take-bits₂ (see s) ≡ seen see (counted .take-head take-bits₁ s)
+  unfolding seen
+  counted-seen s = then see (take-bits₁ 16 s) _ _ (alike 16 s) (λ count r. refl)
 
 -- sources off which nodes are taken alike
 module _ {S T : Type 0} (see : S → T) (test : Leaf-test) (take-one₁ : S → Outcome (Node × S)) (take-one₂ : T → Outcome (Node × T))

@@ -2,7 +2,7 @@
 -- Each side computes, so each proof is `refl`. Assumes nothing.
 use mathlib.Core.Path.{_≡_, refl}
 use mathlib.Core.Bool.{true, false}
-use mathlib.Core.List.{List, [], _∷_, _++_, map}
+use mathlib.Core.List.{List, [], _∷_, _++_, map, flatMap}
 use Prim.Native.Nat.{ℕ, zero, suc, _-_}
 use native.Mathlib.Omega.{arith}
 use Rattle.model.specs.Lists.{Numbers, lend}
@@ -21,7 +21,7 @@ use Rattle.model.specs.Fields
 use Rattle.model.specs.Forms
 use Rattle.model.specs.Forms.{row, packed, there, read-row, read-packed}
 use Rattle.model.specs.Delivery
-use Rattle.model.specs.Delivery.{delivery, read-delivery}
+use Rattle.model.specs.Delivery.{counted, read-stored, delivery, read-delivery}
 use Rattle.model.specs.Calls.{unpack-expression, pack-expression, decode-delivery, encode-delivery, run-size, run-call, ends-from}
 use Rattle.model.specs.Program.{halves, listing-of, listing, listed, list-members}
 
@@ -43,7 +43,7 @@ unfolding Fields.take-field Fields.bits Fields.field Fields.value Fields.only-fi
 opens-forms = tt
 
 opens-delivery : Unit {0}
-unfolding read-delivery Delivery.read-lists Delivery.read-list Delivery.read-body Delivery.read-later Delivery.read-gaps Delivery.width Delivery.width-from Delivery.largest-gap delivery Delivery.lists-bits Delivery.list-bits Delivery.body-bits Delivery.later-bits Delivery.gap-bits
+unfolding read-delivery read-stored Delivery.read-in Delivery.read-lists Delivery.read-list Delivery.read-body Delivery.read-gaps Delivery.width Delivery.width-from Delivery.largest-gap delivery Delivery.delivery-in flatMap Delivery.list-bits Delivery.body-bits Delivery.gap-bits
 opens-delivery = tt
 
 opens-calls : Unit {0}
@@ -491,6 +491,11 @@ pub order-deliveries :
     refusal 10 1 1 ∷ []
 unfolding computes
 order-deliveries = refl
+
+-- where no row is lent: P9, and what with rows is 6, once the count is read, is 1 here
+pub order-stored : read-stored counted (0x04 ∷ 0x00 ∷ 0x0C ∷ []) ∷ map (λ d. read-stored counted (d .0)) deliveries ≡ refused 1 ∷ map (λ d. accepted (d .1)) deliveries
+unfolding computes
+order-stored = refl
 
 -- a run: "lists [..], the packed expression [..], bookmark (12), row lengths (13)"; more numbers than codes; a list number
 -- that is not there; and one empty list, drawn

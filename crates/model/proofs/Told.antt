@@ -2,6 +2,7 @@
 use mathlib.Core.Path.{_≡_, refl, sym, _∙_}
 use mathlib.Core.Bool.{Bool, true, false, _&&_, cond}
 use mathlib.Core.List.{List, [], _∷_}
+use mathlib.Core.Option.{Option, none, some, Option·map}
 use Prim.Native.Nat.{ℕ, zero, suc, _+_, _-_, _≤_}
 use native.Mathlib.Omega.{arith}
 use lib.Dec.{ltb, leb, eqb}
@@ -14,7 +15,7 @@ use Rattle.model.specs.Expression.{Tree}
 use Rattle.model.specs.Fields.{bits, take-field, only-fill}
 use Rattle.model.specs.Forms.{node-of, take-byte, take-rest, take-kind, take-node, Leaf-test, there, read-members, operator, read-below, read-tree, read-row, read-packed}
 use Rattle.model.proofs.Accepted.{never-accepted}
-use Rattle.model.specs.Delivery.{largest-gap, width, read-gaps, read-later, read-body, read-list, read-lists, read-delivery}
+use Rattle.model.specs.Delivery.{largest-gap, width, read-gaps, read-body, Form, counted, read-list, read-lists, read-in, read-delivery}
 
 pub record Told {A : Type 0} (o : Outcome A) : Type 0 where
   pub never : (n : ℕ) → o ≡ refused n → 1 ≤ n
@@ -140,27 +141,35 @@ unfolding read-gaps
 gaps-told w zero last bs = told-right
 gaps-told w (suc n) last bs = told-then (take-field w bs) _ (field-told w bs) (λ r. told-test 8 (ltb (last + r .0 + 1) top) _ (omega arith) (told-then (read-gaps take-field w n (last + r .0 + 1) (r .1)) _ (gaps-told w n (last + r .0 + 1) (r .1)) (λ q. told-right)))
 
-later-told : (n first : ℕ) (bs : List Bool) → Told (read-later take-field n first bs)
-unfolding read-later
-later-told zero first bs = told-right
-later-told (suc n) first bs = told-then (take-field 5 bs) _ (field-told 5 bs) (λ r. told-then (read-gaps take-field (r .0 + 1) (suc n) first (r .1)) _ (gaps-told (r .0 + 1) (suc n) first (r .1)) (λ q. told-test 9 (eqb (r .0 + 1) (width (largest-gap first (q .0)))) _ (omega arith) told-right))
-
 body-told : (n : ℕ) (bs : List Bool) → Told (read-body take-field n bs)
 unfolding read-body
 body-told zero bs = told-right
-body-told (suc n) bs = told-then (take-field 32 bs) _ (field-told 32 bs) (λ r. told-then (read-later take-field n (r .0) (r .1)) _ (later-told n (r .0) (r .1)) (λ q. told-right))
+body-told (suc zero) bs = told-then (take-field 32 bs) _ (field-told 32 bs) (λ r. told-right)
+body-told (suc (suc n)) bs = told-then (take-field 32 bs) _ (field-told 32 bs) (λ a. told-then (take-field 5 (a .1)) _ (field-told 5 (a .1)) (λ r.
+    told-then (read-gaps take-field (r .0 + 1) (suc n) (a .0) (r .1)) _ (gaps-told (r .0 + 1) (suc n) (a .0) (r .1)) (λ q. told-test 9 (eqb (r .0 + 1) (width (largest-gap (a .0) (q .0)))) _ (omega arith) told-right)))
 
-list-told : (room : ℕ) (bs : List Bool) → Told (read-list take-field room bs)
-unfolding read-list
-list-told room bs = told-then (take-field 16 bs) _ (field-told 16 bs) (λ r. told-test 6 (leb (r .0) room) _ (omega arith) (body-told (r .0) (r .1)))
+-- of a form whose heads are told
+module _ {A : Type 0} (form : Form A) (head-told : (bs : List Bool) → Told (form .take-head take-field bs)) where
+  list-told : (room : Option ℕ) (bs : List Bool) → Told (read-list take-field form room bs)
+  unfolding read-list
+  list-told room bs = told-then (form .take-head take-field bs) _ (head-told bs) (λ r. told-test 6 (elim room [ none ↦ true | some k ↦ leb (r .0 .0) k ]) _ (omega arith) (told-then (read-body take-field (r .0 .0) (r .1)) _ (body-told (r .0 .0) (r .1)) (λ q. told-right)))
 
-lists-read-told : (n room : ℕ) (bs : List Bool) → Told (read-lists take-field n room bs)
-unfolding read-lists
-lists-read-told zero room bs = told-right
-lists-read-told (suc n) room bs = told-then (read-list take-field room bs) _ (list-told room bs) (λ r. told-then (read-lists take-field n (room - length (r .0)) (r .1)) _ (lists-read-told n (room - length (r .0)) (r .1)) (λ q. told-right))
+  lists-read-told : (n : ℕ) (room : Option ℕ) (bs : List Bool) → Told (read-lists take-field form n room bs)
+  unfolding read-lists
+  lists-read-told zero room bs = told-right
+  lists-read-told (suc n) room bs = told-then (read-list take-field form room bs) _ (list-told room bs) (λ r.
+      let left : Option ℕ = Option·map (λ k. k - length (form .numbers-of (r .0))) room in
+      told-then (read-lists take-field form n left (r .1)) _ (lists-read-told n left (r .1)) (λ q. told-right))
+
+  pub form-told : (numbers-room ends-room : Option ℕ) (bs : List ℕ) → Told (read-in form numbers-room ends-room bs)
+  unfolding read-in
+  form-told numbers-room ends-room bs =
+      told-then (take-field 6 (bits bs)) _ (field-told 6 (bits bs)) (λ r. told-test 7 (count-holds (r .0)) _ (omega arith) (told-test 6 (elim ends-room [ none ↦ true | some k ↦ leb (r .0) k ]) _ (omega arith)
+      (told-then (read-lists take-field form (r .0) numbers-room (r .1)) _ (lists-read-told (r .0) numbers-room (r .1)) (λ q. told-test 5 (only-fill (q .1)) _ (omega arith) told-right))))
+
+counted-told : (bs : List Bool) → Told (counted .take-head take-field bs)
+counted-told bs = told-then (take-field 16 bs) _ (field-told 16 bs) (λ r. told-right)
 
 pub delivery-told : (numbers-room ends-room : ℕ) (bs : List ℕ) → Told (read-delivery numbers-room ends-room bs)
 unfolding read-delivery
-delivery-told numbers-room ends-room bs =
-    told-then (take-field 6 (bits bs)) _ (field-told 6 (bits bs)) (λ r. told-test 7 (count-holds (r .0)) _ (omega arith) (told-test 6 (leb (r .0) ends-room) _ (omega arith)
-    (told-then (read-lists take-field (r .0) numbers-room (r .1)) _ (lists-read-told (r .0) numbers-room (r .1)) (λ q. told-test 5 (only-fill (q .1)) _ (omega arith) told-right))))
+delivery-told numbers-room ends-room bs = form-told counted counted-told (some numbers-room) (some ends-room) bs

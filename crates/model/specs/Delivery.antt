@@ -1,7 +1,8 @@
 -- "Stored forms", the delivery.
 use mathlib.Core.Bool.{Bool, true, false}
-use mathlib.Core.List.{List, [], _∷_, _++_}
-use Prim.Native.Nat.{ℕ, zero, suc, _+_, _-_, _^_, max}
+use mathlib.Core.List.{List, [], _∷_, _++_, flatMap}
+use mathlib.Core.Option.{Option, none, some, Option·map}
+use Prim.Native.Nat.{ℕ, zero, suc, _+_, _-_, _*_, _^_, min, max}
 use lib.Dec.{ltb, leb, eqb}
 use lib.ListN.{length}
 use Rattle.model.specs.Outcome.{Outcome, accepted, _>>=_, _>>_, require}
@@ -27,28 +28,33 @@ unfoldable pub gap-bits : ℕ → ℕ → List ℕ → List Bool
 gap-bits w last [] = []
 gap-bits w last (x ∷ xs) = field w (x - last - 1) ++ gap-bits w x xs
 
--- "if 2 or more, 5 bits of width minus 1", then the gaps: the numbers behind the first
-unfoldable pub later-bits : ℕ → List ℕ → List Bool
-later-bits first [] = []
-later-bits first (x ∷ xs) = let w = width (largest-gap first (x ∷ xs)) in field 5 (w - 1) ++ gap-bits w first (x ∷ xs)
-
--- "if 1 or more, 32 bits of first number"
+-- "if 1 or more, 32 bits of first number; if 2 or more, 5 bits of width minus 1, then" the gaps
 unfoldable pub body-bits : List ℕ → List Bool
 body-bits [] = []
-body-bits (x ∷ xs) = field 32 x ++ later-bits x xs
+body-bits (x ∷ []) = field 32 x
+body-bits (x ∷ y ∷ ys) = let w = width (largest-gap x (y ∷ ys)) in field 32 x ++ (field 5 (w - 1) ++ gap-bits w x (y ∷ ys))
+
+-- a form, where A is a list as it has it: the bits ahead of its numbers; off a source, how many follow and what list they make
+pub record Form (A : Type 0) : Type 1 where
+  pub numbers-of : A → List ℕ
+  pub head-bits : A → List Bool
+  pub take-head : {S : Type 0} → (ℕ → S → Outcome (ℕ × S)) → S → Outcome ((ℕ × (List ℕ → A)) × S)
 
 -- "Each list: 16 bits of count"
-unfoldable pub list-bits : List ℕ → List Bool
-list-bits l = field 16 (length l) ++ body-bits l
+abbrev pub counted : Form (List ℕ)
+counted = record { numbers-of = λ l. l; head-bits = λ l. field 16 (length l); take-head = λ take-bits source. take-bits 16 source >>= λ (count, rest). accepted ((count, λ l. l), rest) }
 
--- each list behind the one before it
-unfoldable pub lists-bits : List (List ℕ) → List Bool
-lists-bits [] = []
-lists-bits (l ∷ ls) = list-bits l ++ lists-bits ls
+-- a list, written
+unfoldable pub list-bits : {A : Type 0} → Form A → A → List Bool
+list-bits form l = form .head-bits l ++ body-bits (form .numbers-of l)
 
--- "Delivery: 6 bits, number of lists", then each list
-unfoldable pub delivery : List (List ℕ) → List ℕ
-delivery ls = bytes (field 6 (length ls) ++ lists-bits ls)
+-- how many bits it takes: so many of its head, and those of so many numbers, with gaps of w bits
+unfoldable pub list-size : ℕ → ℕ → ℕ → ℕ
+list-size head n w = head + 32 * min n 1 + 5 * min (n - 1) 1 + w * (n - 1)
+
+-- "Delivery: 6 bits, number of lists", then each list behind the one before it
+unfoldable pub delivery-in : {A : Type 0} → Form A → List A → List ℕ
+delivery-in form ls = bytes (field 6 (length ls) ++ flatMap (list-bits form) ls)
 
 -- Reading, from a source off which `take-bits w` takes a field of w bits
 module _ {S : Type 0} (take-bits : ℕ → S → Outcome (ℕ × S)) where
@@ -61,45 +67,50 @@ module _ {S : Type 0} (take-bits : ℕ → S → Outcome (ℕ × S)) where
     (xs, rest) ← read-gaps w n (last + gap + 1) source₁
     accepted ((last + gap + 1) ∷ xs, rest)
 
-  -- the n numbers behind the first, of 1 or more numbers; 9 after the gaps
-  unfoldable pub read-later : ℕ → ℕ → S → Outcome (List ℕ × S)
-  read-later zero first source = accepted ([], source)
-  read-later (suc n) first source = do
-    (less, source₁) ← take-bits 5 source
-    (xs, rest) ← read-gaps (less + 1) (suc n) first source₁
-    require 9 (eqb (less + 1) (width (largest-gap first xs)))
-    accepted (xs, rest)
-
-  -- the numbers of a list of so many
+  -- the numbers of a list of so many, 9 after its gaps
   unfoldable pub read-body : ℕ → S → Outcome (List ℕ × S)
   read-body zero source = accepted ([], source)
-  read-body (suc n) source = do
+  read-body (suc zero) source = take-bits 32 source >>= λ (first, rest). accepted (first ∷ [], rest)
+  read-body (suc (suc n)) source = do
     (first, source₁) ← take-bits 32 source
-    (xs, rest) ← read-later n first source₁
+    (less, source₂) ← take-bits 5 source₁
+    (xs, rest) ← read-gaps (less + 1) (suc n) first source₂
+    require 9 (eqb (less + 1) (width (largest-gap first xs)))
     accepted (first ∷ xs, rest)
 
-  -- one list, with so much room for its numbers: "6 for the numbers once its count is read"
-  unfoldable pub read-list : ℕ → S → Outcome (List ℕ × S)
-  read-list room source = do
-    (count, source₁) ← take-bits 16 source
-    require 6 (leb count room)
-    read-body count source₁
+  -- one list, with so much room for its numbers, if a row is lent: "6 for the numbers once its count is read"
+  unfoldable pub read-list : {A : Type 0} → Form A → Option ℕ → S → Outcome (A × S)
+  read-list form room source = do
+    ((count, made), source₁) ← form .take-head take-bits source
+    require 6 (elim room [ none ↦ true | some r ↦ leb count r ])
+    (xs, rest) ← read-body count source₁
+    accepted (made xs, rest)
 
   -- so many lists, each in the room that those before it have left
-  unfoldable pub read-lists : ℕ → ℕ → S → Outcome (List (List ℕ) × S)
-  read-lists zero room source = accepted ([], source)
-  read-lists (suc n) room source = do
-    (l, source₁) ← read-list room source
-    (ls, rest) ← read-lists n (room - length l) source₁
+  unfoldable pub read-lists : {A : Type 0} → Form A → ℕ → Option ℕ → S → Outcome (List A × S)
+  read-lists form zero room source = accepted ([], source)
+  read-lists form (suc n) room source = do
+    (l, source₁) ← read-list form room source
+    (ls, rest) ← read-lists form n (Option·map (λ r. r - length (form .numbers-of l)) room) source₁
     accepted (l ∷ ls, rest)
 
--- "Order: 1 wherever bits run out; 7; 6 for the ends row; then for each list [..]; finally 5", with so much room in
--- the numbers row and the ends row
-unfoldable pub read-delivery : ℕ → ℕ → List ℕ → Outcome (List (List ℕ))
-read-delivery numbers-room ends-room bs = do
+-- "Order: 1 wherever bits run out; 7; 6 for the ends row; then for each list [..]; finally 5"
+unfoldable pub read-in : {A : Type 0} → Form A → Option ℕ → Option ℕ → List ℕ → Outcome (List A)
+read-in form numbers-room ends-room bs = do
   (n, bs₁) ← take-field 6 (bits bs)
   require 7 (count-holds n)
-  require 6 (leb n ends-room)
-  (ls, rest) ← read-lists take-field n numbers-room bs₁
+  require 6 (elim ends-room [ none ↦ true | some r ↦ leb n r ])
+  (ls, rest) ← read-lists take-field form n numbers-room bs₁
   require 5 (only-fill rest)
   accepted ls
+
+-- the same where no row is lent, so without 6
+unfoldable pub read-stored : {A : Type 0} → Form A → List ℕ → Outcome (List A)
+read-stored form bs = read-in form none none bs
+
+-- this paper's form, written and read
+unfoldable pub delivery : List (List ℕ) → List ℕ
+delivery ls = delivery-in counted ls
+
+unfoldable pub read-delivery : ℕ → ℕ → List ℕ → Outcome (List (List ℕ))
+read-delivery numbers-room ends-room bs = read-in counted (some numbers-room) (some ends-room) bs

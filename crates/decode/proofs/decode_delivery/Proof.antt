@@ -13,11 +13,12 @@ use Rattle.model.specs.declared.DecodeResult.{DecodeResult}
 use Rattle.model.specs.Lists.{count-holds}
 use Rattle.model.specs.Fields.{bits, only-fill}
 use Rattle.model.specs.Sets.{all-numbers}
-use Rattle.model.specs.Delivery.{read-lists, read-delivery}
+use Rattle.model.specs.Delivery.{read-delivery}
 use Rattle.model.specs.Calls.{delivered-refused, delivered}
 use Rattle.lists.proofs.Spans.{counts}
 use Rattle.fields.specs.Positions.{take-at, field-says}
 use Rattle.fields.proofs.Fields.{took}
+use Rattle.decode.specs.Heads.{read-lists}
 use Rattle.decode.specs.declared.Read.{Read}
 use Rattle.decode.specs.Answers.{read-says, total}
 use Rattle.decode.proofs.Reading.{Kept, kept, lost}

@@ -8,12 +8,12 @@ use native.Mathlib.Omega.{arith}
 use lib.Dec.{eqb}
 use lib.ListN.{length, length-set}
 use Rattle.model.specs.Outcome.{accepted}
-use Rattle.model.specs.Delivery.{largest-gap, width, read-gaps, read-list}
+use Rattle.model.specs.Delivery.{largest-gap, width, read-gaps}
 use Rattle.model.proofs.Accepted.{never-accepted, accepted-same, bound, required}
 use Rattle.fields.specs.Rows.{lay}
 use Rattle.fields.specs.Positions.{take-at}
 use Rattle.fields.proofs.Rows.{lay-nil, lay-set, lay-cons}
-use Rattle.decode.specs.Heads.{header}
+use Rattle.decode.specs.Heads.{header, read-list}
 use Rattle.decode.specs.Answers.{head-says}
 use Rattle.decode.proofs.Reading.{follow, list-short, list-more, follow-none, follow-one, follow-more}
 use Rattle.decode.proofs.Bounds.{header-next, gaps-next}

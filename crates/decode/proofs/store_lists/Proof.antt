@@ -9,12 +9,12 @@ use borrow.Author.Needs.{needs}
 use lib.ListN.{length, set, length-set}
 use Rattle.model.specs.Outcome.{accepted}
 use Rattle.model.specs.Sets.{all-numbers}
-use Rattle.model.specs.Delivery.{read-lists}
 use Rattle.model.specs.Calls.{ends-from}
 use Rattle.model.proofs.Accepted.{accepted-same}
 use Rattle.fields.specs.Rows.{lay}
 use Rattle.fields.specs.Positions.{take-at}
 use Rattle.fields.proofs.Rows.{lay-nil, lay-length, lay-append, lay-cons}
+use Rattle.decode.specs.Heads.{read-lists}
 use Rattle.decode.specs.declared.Stored.{Stored}
 use Rattle.decode.specs.Stores.{List-stored}
 use Rattle.decode.proofs.Reading.{lists-none, lists-first}

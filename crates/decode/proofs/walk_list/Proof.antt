@@ -9,10 +9,10 @@ use lib.Dec.{eqb}
 use lib.ListN.{length}
 use borrow.Author.Tests.{eq-eqb, ne-eqb}
 use Rattle.model.specs.Outcome.{number-of, refused, accepted, require, _>>_}
-use Rattle.model.specs.Delivery.{largest-gap, width, read-gaps, read-list}
+use Rattle.model.specs.Delivery.{largest-gap, width, read-gaps}
 use Rattle.fields.specs.Positions.{take-at}
 use Rattle.decode.specs.declared.Head.{Head}
-use Rattle.decode.specs.Heads.{header}
+use Rattle.decode.specs.Heads.{header, read-list}
 use Rattle.decode.specs.Answers.{head-says, read-says, only}
 use Rattle.decode.proofs.Reading.{Kept, kept, lost, only-stop, only-is, follow, list-short, list-more, follow-none, follow-one, follow-more}
 use Rattle.decode.proofs.Bounds.{header-next, gaps-next}

@@ -7,8 +7,8 @@ use borrow.Author.Needs.{needs}
 use lib.ListN.{length}
 use Rattle.model.specs.Outcome.{accepted}
 use Rattle.model.specs.Sets.{all-numbers}
-use Rattle.model.specs.Delivery.{read-list, read-lists}
 use Rattle.fields.specs.Positions.{take-at}
+use Rattle.decode.specs.Heads.{read-list, read-lists}
 use Rattle.decode.specs.Answers.{read-says, only, total}
 use Rattle.decode.proofs.Reading.{Kept, kept, lost, only-stop, only-is, only-same, total-cons, lists-none, lists-stop, lists-more}
 use Rattle.decode.proofs.Bounds.{list-next}

@@ -12,14 +12,14 @@ use borrow.Author.Tests.{not-true, not-false}
 use Rattle.model.specs.declared.WriteResult.{WriteResult}
 use Rattle.model.specs.Lists.{all-ascending, lists-from, count-holds, ends-hold}
 use Rattle.model.specs.Fields.{field}
-use Rattle.model.specs.Delivery.{lists-bits, delivery}
+use Rattle.model.specs.Delivery.{delivery}
 use Rattle.model.specs.Calls.{written-refused, written}
 use Rattle.model.proofs.Laid.{lists-length}
 use Rattle.lists.proofs.Spans.{counts}
 use Rattle.fields.specs.Rows.{lay}
 use Rattle.fields.specs.Positions.{put-bits}
 use Rattle.encode.specs.declared.Measure.{Measure}
-use Rattle.encode.specs.Measures.{gap-width, measured-by, measured}
+use Rattle.encode.specs.Measures.{lists-bits, gap-width, measured-by, measured}
 use Rattle.encode.proofs.Whole.{lists-small, refuses-7, refuses-10, refuses-11, refuses-6, writes, delivery-length, delivered}
 use Rattle.encode.proofs.encode_delivery.Statement.{statement}
 use Rattle.encode.proofs.encode_delivery.Tie as tie

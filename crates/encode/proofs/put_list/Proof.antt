@@ -8,13 +8,14 @@ use Prim.Native.Nat.{ℕ, _+_, _-_, _*_, _^_, _≤_, _<_}
 use native.Mathlib.Omega.{arith}
 use lib.ListN.{length, getD, drop, length-append}
 use Rattle.model.specs.Fields.{field}
-use Rattle.model.specs.Delivery.{gap-bits, list-bits}
+use Rattle.model.specs.Delivery.{gap-bits, list-size}
 use Rattle.model.proofs.Bits.{field-length}
+use Rattle.model.proofs.Sizes.{size-more}
 use Rattle.lists.specs.Rise.{largest}
 use Rattle.fields.specs.Positions.{put-bits}
 use Rattle.fields.proofs.Puts.{put-append}
-use Rattle.encode.specs.Measures.{gap-width, list-size}
-use Rattle.encode.proofs.Sizes.{Wide, gap-width-wide, bits-none, bits-one, bits-more, list-size-is, size-any, size-some, size-more, from-first, largest-first}
+use Rattle.encode.specs.Measures.{list-bits, gap-width}
+use Rattle.encode.proofs.Sizes.{Wide, gap-width-wide, bits-none, bits-one, bits-more, list-size-is, size-any, size-some, from-first, largest-first}
 use Rattle.encode.proofs.put_list.Statement.{statement}
 use Rattle.encode.proofs.put_list.Tie as tie
 
@@ -24,8 +25,8 @@ joined s at a xs ys l h er et =
     et ∙ ap₂ (λ (row : List ℕ) (p : ℕ). put-bits row p ys) er (ap (λ (k : ℕ). at + k) (sym l)) ∙ put-append s at xs ys (rw l h)
 
 -- what is required, as it is used
-sized : (c : tie.Start) → let l = c .args .list .now in length (list-bits l) ≡ list-size (length l) (c .args .w)
-sized c = list-size-is (c .args .list .now) ∙ ap (list-size (length (c .args .list .now))) (sym (c .pre .wide))
+sized : (c : tie.Start) → let l = c .args .list .now in length (list-bits l) ≡ list-size 16 (length l) (c .args .w)
+sized c = list-size-is (c .args .list .now) ∙ ap (list-size 16 (length (c .args .list .now))) (sym (c .pre .wide))
 
 wide : (c : tie.After-put-field) → Wide (largest (c .before .before .before .before .before .args .list .now)) (c .before .before .before .before .before .args .w)
 wide c =
@@ -119,7 +120,7 @@ put-field-requires-3 c κs =
     let w = wide p in (
       omega arith,
       omega (arith, c .narrow2 .ensures, w .one, w .most),
-      omega (arith, sized start, size-more (length (args .list .now)) (args .w) (many p2 (c .before .before .if2 .left)), start .pre .room, p .put-field .kept .0, p2 .put-field2 .kept .0),
+      omega (arith, sized start, size-more 16 (length (args .list .now)) (args .w) (many p2 (c .before .before .if2 .left)), start .pre .room, p .put-field .kept .0, p2 .put-field2 .kept .0),
     )
 
 add-put-gaps : tie.Need-add-put-gaps
@@ -139,7 +140,7 @@ put-gaps-requires c κs =
       few = start .pre .few;
       most = w .most;
       low = omega (arith, start .pre .low);
-      room = omega (arith, sized start, size-more (length (args .list .now)) (args .w) more, start .pre .room, p .put-field .kept .0, p2 .put-field2 .kept .0, p3 .put-field3 .kept .0);
+      room = omega (arith, sized start, size-more 16 (length (args .list .now)) (args .w) more, start .pre .room, p .put-field .kept .0, p2 .put-field2 .kept .0, p3 .put-field3 .kept .0);
       rise = from-first (args .list .now) (omega arith) (start .pre .ascends);
       hold = subst (λ (m : ℕ). m < 2 ^ args .w) (largest-first (args .list .now) (omega arith)) (w .holds);
     }
@@ -156,7 +157,7 @@ returns-3 c =
     let args = start .args in
     let l : List ℕ = args .list .now in
     let more = many p2 (p3 .before .before .before .if2 .left) in
-    let size = size-more (length l) (args .w) more in
+    let size = size-more 16 (length l) (args .w) more in
     let head : List Bool = field 16 (length l) ++ field 32 (getD l 0 0) in
     let long : length head ≡ 48 = omega (arith, length-append (field 16 (length l)) (field 32 (getD l 0 0)), field-length 16 (length l), field-length 32 (getD l 0 0)) in
     let less : List Bool = field 5 (gap-width l - 1) in

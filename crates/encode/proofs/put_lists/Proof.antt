@@ -3,14 +3,13 @@
 -- left. Assumes nothing.
 use mathlib.Core.Path.{_≡_, refl, sym, ap, ap₂, _∙_, subst}
 use mathlib.Core.Bool.{true}
-use mathlib.Core.List.{List, _∷_, map}
+use mathlib.Core.List.{List, _∷_, map, flatMap}
 use Prim.Native.Nat.{ℕ, _+_, _-_, _*_, _≤_}
 use native.Mathlib.Omega.{arith}
 use borrow.Author.Needs.{needs}
 use lib.ListN.{length, getD, take, drop, replicate, length-take, length-map}
 use Rattle.model.specs.Lists.{ascending, all-ascending, part, lists-from, ends-hold}
 use Rattle.model.specs.Fields.{Bytes}
-use Rattle.model.specs.Delivery.{list-bits, lists-bits}
 use Rattle.model.proofs.Order.{and-true}
 use Rattle.model.proofs.Accepted.{numbers-part}
 use Rattle.model.proofs.Laid.{lists-length}
@@ -19,7 +18,7 @@ use Rattle.fields.specs.Rows.{lay}
 use Rattle.fields.specs.Positions.{put-bits}
 use Rattle.fields.proofs.Rows.{lay-length}
 use Rattle.fields.proofs.Puts.{put-small, put-nil, put-append}
-use Rattle.encode.specs.Measures.{gap-width}
+use Rattle.encode.specs.Measures.{list-bits, lists-bits, gap-width}
 use Rattle.encode.proofs.Sizes.{gap-width-wide, list-size-is, size-small}
 use Rattle.encode.proofs.Rest.{rest-more, rest-none, bits-cons, lay-head, lay-again}
 use Rattle.encode.proofs.put_lists.Statement.{statement}
@@ -142,7 +141,7 @@ loop-less : tie.Need-loop-less Inv-loop μ-loop
 loop-less c = search needs
 
 loop-again : tie.Need-loop-again Inv-loop μ-loop
-unfolding lists-bits
+unfolding flatMap
 loop-again c =
     let p = c .before .before in
     let w = p .before .before .before .before in
@@ -171,7 +170,7 @@ same-length : tie.Need-same-length Inv-loop μ-loop
 same-length c = search needs
 
 returns : tie.Need-returns Inv-loop μ-loop
-unfolding lists-bits
+unfolding flatMap
 returns c =
     let l = c .before .loop in
     let args = c .before .before .before .before .before .args in

@@ -2,20 +2,20 @@
 -- found and what those that are left have. The measure is how many are left. Assumes nothing.
 use mathlib.Core.Path.{_≡_, refl, sym, ap, ap₂, _∙_}
 use mathlib.Core.Bool.{true, false}
-use mathlib.Core.List.{List, map}
+use mathlib.Core.List.{List, map, flatMap}
 use Prim.Native.Nat.{ℕ, _+_, _-_, _*_, _≤_}
 use native.Mathlib.Omega.{arith}
 use borrow.Author.Needs.{needs}
 use lib.ListN.{length, getD, take, drop, set, replicate, length-set, length-take, length-drop}
 use Rattle.model.specs.Lists.{ascending, all-ascending, part, lists-from, ends-hold}
-use Rattle.model.specs.Delivery.{width, list-bits, lists-bits}
+use Rattle.model.specs.Delivery.{width, list-size}
 use Rattle.model.proofs.Accepted.{numbers-part}
 use Rattle.lists.specs.Rise.{rise, rise-says, largest}
 use Rattle.lists.proofs.Ends.{Next, hold-next, lists-fall, lists-more}
 use Rattle.lists.proofs.Rises.{falls}
 use Rattle.fields.specs.Rows.{lay}
 use Rattle.fields.proofs.Rows.{lay-nil, lay-cons}
-use Rattle.encode.specs.Measures.{gap-width, list-size, measured}
+use Rattle.encode.specs.Measures.{list-bits, lists-bits, gap-width, measured}
 use Rattle.encode.proofs.Sizes.{gap-width-wide, risen, list-size-is, size-small}
 use Rattle.encode.proofs.Rest.{rest-more, rest-none, bits-cons}
 use Rattle.encode.proofs.survey.Statement.{statement}
@@ -82,7 +82,7 @@ sized c =
     let l : List ℕ = part (args .numbers .now) (at .loop .start) stop in
     let len : w .wide .result - at .loop .start ≡ length l =
     omega (arith, w .wide .ensures, n .order, n .inside, length-take (stop - at .loop .start) (drop (at .loop .start) (args .numbers .now)), length-drop (at .loop .start) (args .numbers .now)) in
-    let size : c .bits-of .result ≡ list-size (length l) (gap-width l) = c .bits-of .ensures ∙ ap₂ (λ (a b : ℕ). list-size a b) len (c .before .wide2 .ensures ∙ f .wide) in
+    let size : c .bits-of .result ≡ list-size 16 (length l) (gap-width l) = c .bits-of .ensures ∙ ap₂ (λ (a b : ℕ). list-size 16 a b) len (c .before .wide2 .ensures ∙ f .wide) in
     (size ∙ sym (list-size-is l), omega (arith, size, size-small (length l) (gap-width l) (omega (arith, w .wide .ensures, n .few)) (omega (arith, f .wide, f .most))))
 
 loop-holds : tie.Need-loop-holds Inv-loop μ-loop
@@ -184,7 +184,7 @@ loop-again c =
     )
 
 returns-2 : tie.Need-returns-2 Inv-loop μ-loop
-unfolding measured all-ascending lists-bits
+unfolding measured all-ascending flatMap
 returns-2 c =
     let l = c .before .loop in
     let args = c .before .before .before .before .args in
