@@ -29,10 +29,10 @@ use Rattle.model.proofs.Laid.{ends-length, lists-length, laid-over}
 use Rattle.model.proofs.RoundTrips.{read-sends, lists-there}
 use Rattle.fields.specs.Rows.{lay}
 use Rattle.fields.proofs.Rows.{lay-take}
-use Rattle.listing.specs.declared.Page.{Page}
-use Rattle.listing.specs.Pages.{Drawing, page, Handed, page-of, laid-down}
+use Rattle.pages.specs.declared.Page.{Page}
+use Rattle.pages.specs.Pages.{Drawing, page, Handed, page-of, laid-down}
 use Rattle.listing.specs.Over.{Delivered-lists, list-over}
-use Rattle.listing.proofs.Pages.{page-all}
+use Rattle.pages.proofs.Pages.{page-all}
 
 -- ---- behind the delivery
 

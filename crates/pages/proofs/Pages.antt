@@ -15,7 +15,7 @@ use Rattle.model.specs.Steps.{seek}
 use Rattle.model.specs.Run.{State, drawn, step, steps}
 use Rattle.fields.specs.Rows.{lay}
 use Rattle.fields.proofs.Rows.{lay-nil, lay-cons}
-use Rattle.listing.specs.Pages.{Drawing, go-on, page, Handed, laid-down}
+use Rattle.pages.specs.Pages.{Drawing, go-on, page, Handed, laid-down}
 
 -- a drawing laid down from place i on
 abbrev placed : Drawing → List ℕ → ℕ → Handed
