@@ -3,19 +3,19 @@
 -- Between two calls a run keeps: at and above the floor, the residual set of the root is the denoted set. A seek keeps
 -- it because it leaves everything at and above where it sought to; a check because it leaves everything at and above
 -- its number. Assumes nothing.
-use mathlib.Core.Path.{_≡_, refl, sym, _∙_}
+use mathlib.Core.Path.{_≡_, refl, sym, ap, _∙_}
 use mathlib.Core.Bool.{Bool, true, false, _&&_, cond}
-use mathlib.Core.List.{List, [], _∷_}
-use Prim.Native.Nat.{ℕ, suc, _+_, _≤_, _<_, max}
+use mathlib.Core.List.{List, [], _∷_, _++_, map}
+use Prim.Native.Nat.{ℕ, suc, _+_, _-_, _≤_, _<_, max}
 use native.Mathlib.Omega.{arith}
 use lib.Dec.{ltb, leb}
 use borrow.Author.Tests.{ltb-true, ltb-false, le-leb, lt-leb}
-use lib.ListN.{getD, length}
+use lib.ListN.{getD, length, take, drop, replicate}
 use Rattle.model.specs.declared.Reply.{Reply}
-use Rattle.model.specs.declared.Reply.the-variants.{Yes, No}
+use Rattle.model.specs.declared.Reply.the-variants.{Member, Finished, Yes, No}
 use Rattle.model.specs.Lists.{top}
 use Rattle.model.specs.Expression.{Tree, leaf, difference, union, intersection, Members, one, more, size}
-use Rattle.model.specs.Sets.{member, member-some, member-all}
+use Rattle.model.specs.Sets.{member, member-some, member-all, members-from}
 use Rattle.model.specs.Machine.{Call, next, at-or-past, past, check, other, draw, reply, machine}
 use Rattle.model.specs.Steps.{Readers, Found, end, at, Checked, says, seek, check-node}
 use Rattle.model.specs.Run.{State, drawn, told, step, steps, begin, run}
@@ -23,7 +23,7 @@ use Rattle.model.proofs.Order.{Up, untouched, none-moved}
 use Rattle.model.proofs.Residual.{After, Sought, residual, residual-some, residual-all}
 use Rattle.model.proofs.Seek.{seek-is}
 use Rattle.model.proofs.Check.{Told, check-is}
-use Rattle.model.proofs.Plain.{draw-none, draw-some}
+use Rattle.model.proofs.Plain.{draw-none, draw-some, draws, members-rest, members-end}
 
 -- readers at the start have everything left
 module _ (ls : List (List ℕ)) (ps : List ℕ) (unmoved : (k : ℕ) → getD ps k 0 ≡ 0) (x : ℕ) where
@@ -146,3 +146,60 @@ module _ (ls : List (List ℕ)) (up : (k : ℕ) → Up 0 (getD ls k [])) (t : Tr
   pub bookmark-low : (b : ℕ) → b ≤ top → size t ≤ 48 → (cs : List Call) → All-small cs → run ls t b cs .bookmark ≤ top
   unfolding run
   bookmark-low b bt st cs h = from-begin b bt st cs h .ok .low
+
+-- ---- between two calls, for what draws a next at a time
+
+-- a state that a run over ascending lists comes to
+pub record Between (ls : List (List ℕ)) (t : Tree) (s : State) : Type 0 where
+  pub up : (k : ℕ) → Up 0 (getD ls k [])
+  ok : Ok ls up t s
+
+pub begins : (ls : List (List ℕ)) → ((k : ℕ) → Up 0 (getD ls k [])) → (t : Tree) (b : ℕ) → b ≤ top → size t ≤ 48 → Between ls t (begin b)
+unfolding steps
+begins ls up t b bt st = record { up = up; ok = from-begin ls up t b bt st [] tt .ok }
+
+-- the reply to a next and the floor after it, where these are the members at or above the floor
+abbrev pub first-of : List ℕ → Reply × ℕ
+first-of [] = (Finished, top)
+first-of (m ∷ ms) = (Member m, suc m)
+
+-- a next: the first of those members, and the others are left
+pub record Next-drawn (ls : List (List ℕ)) (t : Tree) (ms : List ℕ) (p : Reply × State) : Type 0 where
+  pub says : p .0 ≡ first-of ms .0
+  pub floor : p .1 .floor ≡ first-of ms .1
+  pub left : members-from ls t (p .1 .floor) ≡ drop 1 ms
+  pub between : Between ls t (p .1)
+
+module _ (ls : List (List ℕ)) (t : Tree) (s : State) (b : Between ls t s) where
+  pub floor-low : s .floor ≤ top
+  floor-low = b .ok .low
+
+  -- after any calls it is such a state again
+  pub calls-between : (cs : List Call) → All-small cs → Between ls t (steps ls t s cs .1)
+  calls-between cs h = record { up = b .up; ok = all-joined ls (b .up) t cs h s (b .ok) .ok }
+
+  pub draws-next : Next-drawn ls t (members-from ls t (s .floor)) (step ls t s next)
+  unfolding step steps drawn
+  draws-next = record { says = says; floor = floors; left = left (members-from ls t (s .floor)) refl floors; between = calls-between (next ∷ []) (tt, tt) }
+    where
+      same : (ms : List ℕ) → getD (map Member (take 1 ms) ++ replicate (1 - length ms) Finished) 0 Finished ≡ first-of ms .0
+      same [] = refl
+      same (m ∷ ms) = refl
+
+      says : step ls t s next .0 ≡ first-of (members-from ls t (s .floor)) .0
+      says =
+          ap (λ (rs : List Reply). getD rs 0 Finished) (all-joined ls (b .up) t (next ∷ []) (tt, tt) s (b .ok) .same ∙ draws ls (b .up) t (s .floor) (b .ok .low) 1)
+          ∙ same (members-from ls t (s .floor))
+
+      floor-of : (f : Found) (ms : List ℕ) → drawn f .0 ≡ first-of ms .0 → drawn f .1 .floor ≡ first-of ms .1
+      floor-of (end rs) [] e = refl
+      floor-of (end rs) (m ∷ ms) e = cc
+      floor-of (at x rs) [] e = cc
+      floor-of (at x rs) (m ∷ ms) e = cc
+
+      floors : step ls t s next .1 .floor ≡ first-of (members-from ls t (s .floor)) .1
+      floors = floor-of (seek ls t 0 (s .floor) (s .readers)) (members-from ls t (s .floor)) says
+
+      left : (ms : List ℕ) → members-from ls t (s .floor) ≡ ms → step ls t s next .1 .floor ≡ first-of ms .1 → members-from ls t (step ls t s next .1 .floor) ≡ drop 1 ms
+      left [] e f = ap (members-from ls t) f ∙ members-end ls (b .up) t
+      left (m ∷ ms) e f = ap (members-from ls t) f ∙ members-rest ls (b .up) t (s .floor) m ms e

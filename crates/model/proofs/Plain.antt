@@ -1,5 +1,5 @@
 -- The plain machine: broken off and resumed, and drawn to the end. Its state is the floor alone. Assumes nothing.
-use mathlib.Core.Path.{_≡_, refl, ap, _∙_}
+use mathlib.Core.Path.{_≡_, refl, sym, ap, ap₂, _∙_}
 use mathlib.Core.Bool.{true, false}
 use mathlib.Core.List.{List, [], _∷_, _++_, map}
 use Prim.Native.Nat.{ℕ, zero, suc, _-_, _≤_, _<_}
@@ -13,7 +13,7 @@ use Rattle.model.specs.Lists.{top}
 use Rattle.model.specs.Expression.{Tree}
 use Rattle.model.specs.Sets.{among, member, members-from}
 use Rattle.model.specs.Machine.{Call, next, draw, reply, machine}
-use Rattle.model.proofs.Order.{Up, up-none}
+use Rattle.model.proofs.Order.{not-both, split, Up, up-none}
 use Rattle.model.proofs.Denoted.{No-member, Least-member, least-from-none, least-from-some, members-up, members-above}
 
 module _ (ls : List (List ℕ)) (t : Tree) where
@@ -61,3 +61,48 @@ module _ (ls : List (List ℕ)) (t : Tree) where
 pub draws : (ls : List (List ℕ)) → ((k : ℕ) → Up 0 (getD ls k [])) → (t : Tree) (b : ℕ) → b ≤ top → (n : ℕ)
     → machine ls t b (replicate n next) .0 ≡ map Member (take n (members-from ls t b)) ++ replicate (n - length (members-from ls t b)) Finished
 draws ls up t b bt n = drawn-by ls t n (members-from ls t b) b bt (members-up ls up t b) (members-above ls up t b)
+
+-- ---- the members, one taken off after the other
+
+-- two ascending rows that hold the same numbers are one row
+pub up-same : (lo : ℕ) (xs ys : List ℕ) → Up lo xs → Up lo ys → ((x : ℕ) → among x xs ≡ among x ys) → xs ≡ ys
+unfolding among
+up-same lo [] [] u v h = refl
+up-same lo [] (y ∷ ys) u v h = absurd (not-both (cc (eq-eqb y y refl)) (sym (h y)))
+up-same lo (x ∷ xs) [] u v h = absurd (not-both (cc (eq-eqb x x refl)) (h x))
+up-same lo (x ∷ xs) (y ∷ ys) u v h = ap₂ (λ (z : ℕ) (zs : List ℕ). z ∷ zs) heads (up-same (suc x) xs ys (u .2) later (λ z. split (among z xs ≡ among z ys) z (suc x) (below z) (above z)))
+  where
+    heads : x ≡ y
+    heads =
+        split (x ≡ y) x y (λ lt. absurd (not-both (cc (eq-eqb x x refl)) (h x ∙ up-none y x (y ∷ ys) (omega arith, v .1, v .2) lt)))
+        (λ ge. split (x ≡ y) y x (λ lt. absurd (not-both (cc (eq-eqb y y refl)) (sym (h y) ∙ up-none x y (x ∷ xs) (omega arith, u .1, u .2) lt))) (λ le. omega arith))
+
+    later : Up (suc x) ys
+    later = rw (heads) (v .2)
+
+    below : (z : ℕ) → z < suc x → among z xs ≡ among z ys
+    below z lt = up-none (suc x) z xs (u .2) lt ∙ sym (up-none (suc x) z ys later lt)
+
+    above : (z : ℕ) → suc x ≤ z → among z xs ≡ among z ys
+    above z ge = cc (h z, ne-eqb z x (λ e. omega arith), ne-eqb z y (λ e. omega (arith, heads)))
+
+module _ (ls : List (List ℕ)) (up : (k : ℕ) → Up 0 (getD ls k [])) (t : Tree) where
+  -- behind the first member stand the others
+  pub members-rest : (b m : ℕ) (ms : List ℕ) → members-from ls t b ≡ m ∷ ms → members-from ls t (suc m) ≡ ms
+  unfolding among
+  members-rest b m ms e = up-same (suc m) (members-from ls t (suc m)) ms (members-up ls up t (suc m)) (u .2) same
+    where
+      u : Up b (m ∷ ms)
+      u = rw e at (members-up ls up t b)
+
+      same : (x : ℕ) → among x (members-from ls t (suc m)) ≡ among x ms
+      same x = split (among x (members-from ls t (suc m)) ≡ among x ms) x (suc m)
+          (λ lt. up-none (suc m) x (members-from ls t (suc m)) (members-up ls up t (suc m)) lt ∙ sym (up-none (suc m) x ms (u .2) lt))
+          (λ ge. sym (members-above ls up t (suc m) x ge) ∙ members-above ls up t b x (omega (arith, u .0)) ∙ rw (e, ne-eqb x m (λ r. omega arith)))
+
+  pub members-end : members-from ls t top ≡ []
+  members-end = go (members-from ls t top) (members-up ls up t top)
+    where
+      go : (ms : List ℕ) → Up top ms → ms ≡ []
+      go [] u = refl
+      go (m ∷ ms) u = absurd (omega (arith, u .0, u .1))
