@@ -27,6 +27,7 @@ use Rattle.model.proofs.Deliveries.{delivery-holds}
 use Rattle.model.proofs.Laid.{ends-length, lists-length, laid-over}
 use Rattle.model.proofs.RoundTrips.{read-sends, lists-there}
 use Rattle.fields.specs.Rows.{lay}
+use Rattle.reader.specs.Rows.{Stands}
 use Rattle.pages.specs.declared.Page.{Page}
 use Rattle.pages.specs.Pages.{page, page-of, laid-down}
 use Rattle.listing.specs.Over.{Delivered-lists, list-over}
@@ -70,10 +71,10 @@ module _ (numbers ends packed lent : List ℕ) where
       few = omega (arith, members-few ls t 0, d .few)
 
       -- in a page of 4,097 places
-      pub draws-all : (room : List ℕ) → length room ≡ 4097 → (r : Page) (row : List ℕ) → page-of r row ≡ laid-down (page ls t (begin 0) (length room)) room → All-drawn ls t r row
+      pub draws-all : (nodes : List ℕ) → Stands (length ends) nodes t 0 → (room : List ℕ) → length room ≡ 4097 → (r : Page) (row : List ℕ) → page-of r row ≡ laid-down (page ls t (begin 0) (length room)) room → All-drawn ls t r row
       unfolding run begin asked
-      draws-all room long r row e =
-          let p = holds-page ls t (begin 0) (starts numbers ends packed n ls (d .lists) t f 0 (omega arith)) room r row e in
+      draws-all nodes h room long r row e =
+          let p = holds-page ls t (begin 0) (starts numbers ends nodes n (d .lists) t h 0 (omega arith)) room r row e in
           let count : r .count ≡ length ms = omega (arith, p .count, few) in
           let ended : r .finished ≡ true = p .finished ∙ lt-ltb (length ms) (length room) (omega (arith, few)) in
           record {

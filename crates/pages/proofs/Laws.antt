@@ -13,19 +13,20 @@ use lib.Seq.{take-all}
 use Rattle.model.specs.declared.Reply.{Reply}
 use Rattle.model.specs.declared.Reply.the-variants.{Member, Finished}
 use Rattle.model.specs.Outcome.{accepted}
-use Rattle.model.specs.Lists.{top, Numbers, lists-of}
+use Rattle.model.specs.Lists.{top, Numbers, lists-from, lists-of}
 use Rattle.model.specs.Expression.{Tree}
 use Rattle.model.specs.Sets.{among, member, members-from}
 use Rattle.model.specs.Machine.{next}
 use Rattle.model.specs.Steps.{Found, end, at, seek}
 use Rattle.model.specs.Run.{State, drawn, step, steps, begin}
-use Rattle.model.specs.Forms.{read-packed}
-use Rattle.model.proofs.Accepted.{accepted-up, packed-reads}
+use Rattle.model.proofs.Accepted.{accepted-up}
 use Rattle.model.proofs.Order.{split, Up, up-drop, up-none}
 use Rattle.model.proofs.Denoted.{members-up, members-are}
 use Rattle.model.proofs.Join.{Between, begins, Next-drawn, draws-next}
 use Rattle.fields.specs.Rows.{lay}
 use Rattle.fields.proofs.Rows.{lay-take, lay-drop, lay-length}
+use Rattle.reader.specs.Rows.{Stands}
+use Rattle.reader.proofs.Standing.{inside}
 use Rattle.engine.specs.States.{state-of}
 use Rattle.pages.specs.declared.Page.{Page}
 use Rattle.pages.specs.Pages.{Drawing, go-on, page, Handed, page-of, laid-down}
@@ -128,10 +129,10 @@ module _ (ls : List (List ℕ)) (t : Tree) where
 
 -- ---- of a state between two calls
 
--- a run's first state is one, over accepted lists and an accepted expression
-pub starts : (numbers ends packed : List ℕ) → Numbers numbers → (ls : List (List ℕ)) → lists-of numbers ends ≡ accepted ls → (t : Tree) → read-packed (length ends) packed ≡ accepted t
-    → (bookmark : ℕ) → bookmark ≤ top → Between ls t (begin bookmark)
-starts numbers ends packed n ls e t f bookmark h = begins ls (accepted-up numbers ends ls n e) t bookmark h (packed-reads (length ends) packed t f .nodes)
+-- a run's first state is one, by what a page asks of its caller
+pub starts : (numbers ends nodes : List ℕ) → Numbers numbers → lists-of numbers ends ≡ accepted (lists-from numbers 0 ends) → (t : Tree) → Stands (length ends) nodes t 0
+    → (bookmark : ℕ) → bookmark ≤ top → Between (lists-from numbers 0 ends) t (begin bookmark)
+starts numbers ends nodes n e t h bookmark low = begins _ (accepted-up numbers ends _ n e) t bookmark low (omega (arith, inside (length ends) nodes t 0 h))
 
 -- a page of n places where ms are the members at or above the floor: the first n of them; the others are left, and finished came
 -- exactly if there were fewer than n
