@@ -22,7 +22,7 @@ use Rattle.model.specs.Run.{State, drawn, step, steps, begin}
 use Rattle.model.proofs.Accepted.{accepted-up}
 use Rattle.model.proofs.Order.{split, Up, up-drop, up-none}
 use Rattle.model.proofs.Denoted.{members-up, members-are}
-use Rattle.model.proofs.Join.{Between, begins, Next-drawn, draws-next}
+use Rattle.model.proofs.Join.{Between, begins, floor-low, Next-drawn, draws-next}
 use Rattle.fields.specs.Rows.{lay}
 use Rattle.fields.proofs.Rows.{lay-take, lay-drop, lay-length}
 use Rattle.reader.specs.Rows.{Stands}
@@ -157,6 +157,17 @@ cut x lo (suc n) (m ∷ ms) u = go (eqb x m) refl (cut x (suc m) n ms (u .2))
     go true e ih = rw (up-none (suc m) x (drop n ms) (up-drop (suc m) n ms (u .2)) (omega (arith, eqb-true x m e)))
     go false e ih = ih
 
+up-take : (lo n : ℕ) (ms : List ℕ) → Up lo ms → Up lo (take n ms)
+up-take lo zero ms u = tt
+up-take lo (suc n) [] u = tt
+up-take lo (suc n) (m ∷ ms) u = (u .0, u .1, up-take (suc m) n ms (u .2))
+
+-- each member lifts the floor behind it by 1 or more
+behind-up : (lo : ℕ) (ms : List ℕ) → Up lo ms → lo ≤ top → (lo + length ms ≤ behind lo ms) × (behind lo ms ≤ top)
+unfolding behind
+behind-up lo [] u h = (omega arith, h)
+behind-up lo (m ∷ ms) u h = let q = behind-up (suc m) ms (u .2) (omega (arith, u .1)) in (omega (arith, u .0, q .0), q .1)
+
 -- at or above one floor and not above another
 sides : (x f g : ℕ) (m : Bool) → (leb f x && m) && not (leb g x && m) ≡ leb f x && (ltb x g && m)
 sides x f g m =
@@ -215,6 +226,17 @@ module _ (ls : List (List ℕ)) (t : Tree) where
         ∙ ap₂ (λ (i j : Bool). i && not j) (members-are ls (b .up) t (s .floor) x) (ap (among x) (sym (d .left)) ∙ members-are ls (b .up) t (page ls t s n .1 .floor) x)
         ∙ sides x (s .floor) (page ls t s n .1 .floor) (member ls t x)
 
+    -- the floor rises by as much as there are members, or more: so much for what counts them, and for what goes on until finished
+    pub page-rises : s .floor + length (page ls t s n .0) ≤ page ls t s n .1 .floor
+    page-rises = go (page ls t s n .2) refl
+      where
+        up : Up (s .floor) (page ls t s n .0)
+        up = rw (drawn-page n s b .members) (up-take (s .floor) n (members-from ls t (s .floor)) (members-up ls (b .up) t (s .floor)))
+
+        go : (f : Bool) → page ls t s n .2 ≡ f → s .floor + length (page ls t s n .0) ≤ page ls t s n .1 .floor
+        go true e = omega (arith, rw e at (page-floor ls t n s), behind-up (s .floor) (page ls t s n .0) up (floor-low ls t s b))
+        go false e = omega (arith, rw e at (page-floor ls t n s), behind-up (s .floor) (page ls t s n .0) up (floor-low ls t s b))
+
 -- ---- what `draw_page` hands back, with its row, where ms are the members at or above the floor
 pub record Holds-page (ls : List (List ℕ)) (t : Tree) (s : State) (ms lent : List ℕ) (r : Page) (row : List ℕ) : Type 0 where
   pub count : r .count ≡ min (length lent) (length ms)
@@ -223,7 +245,10 @@ pub record Holds-page (ls : List (List ℕ)) (t : Tree) (s : State) (ms lent : L
   pub long : length row ≡ length lent
   pub left : members-from ls t (r .floor) ≡ drop (r .count) ms
   pub finished : r .finished ≡ ltb (length ms) (length lent)
+  pub full : r .finished ≡ false → r .count ≡ length lent
+  pub ended : r .finished ≡ true → members-from ls t (r .floor) ≡ []
   pub floor : r .floor ≡ cond (r .finished) top (behind (s .floor) (take (r .count) ms))
+  pub rises : s .floor + r .count ≤ r .floor
   pub between : Between ls t (state-of (r .floor) (r .readers))
   pub ran : steps ls t s (replicate (asked (r .count) (r .finished)) next) ≡ (replied (take (r .count) ms) (r .finished), state-of (r .floor) (r .readers))
 
@@ -248,7 +273,10 @@ holds-page ls t s b lent r row e = record {
   long = ap (λ (l : List ℕ). length l) rows ∙ lay-length lent 0 (take n ms) (omega (arith, length-take n ms));
   left = ap (λ (h : Handed). members-from ls t (h .1 .floor)) e ∙ d .left ∙ sym (min-dropped n ms) ∙ ap (λ (k : ℕ). drop k ms) (sym counts);
   finished = ends ∙ d .finished;
+  full = λ h. ap (λ (h : Handed). h .0) e ∙ page-full ls t n s (sym ends ∙ h);
+  ended = λ h. ap (λ (s : State). members-from ls t (s .floor)) states ∙ page-ended ls t n s b (sym ends ∙ h);
   floor = ap (λ (h : Handed). h .1 .floor) e ∙ page-floor ls t n s ∙ ap₂ (λ (f : Bool) (l : List ℕ). cond f top (behind (s .floor) l)) (sym ends) drew;
+  rises = omega (arith, ap (λ (h : Handed). h .0) e, ap (λ (h : Handed). h .1 .floor) e, page-rises ls t n s b);
   between = subst (Between ls t) (sym states) (d .between);
   ran = ap₂ (λ (k : ℕ) (f : Bool). steps ls t s (replicate (asked k f) next)) (ap (λ (h : Handed). h .0) e) ends ∙ page-run ls t n s ∙ (λ i. (replied (drew i) (sym ends i), sym states i));
 }
