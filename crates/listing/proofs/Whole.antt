@@ -1,16 +1,16 @@
 -- The work of `members` whole: its tests one after another, and behind them a page that holds every member. Assumes nothing.
 use mathlib.Core.Path.{_≡_, refl, sym, ap, ap₂, _∙_}
-use mathlib.Core.Bool.{true}
-use mathlib.Core.List.{List, [], _∷_, _++_, map}
+use mathlib.Core.Bool.{Bool, true}
+use mathlib.Core.List.{List, [], _∷_}
 use Prim.Native.Nat.{ℕ, suc, _+_, _-_, _≤_, _<_}
 use native.Mathlib.Nat.{zero-add}
 use native.Mathlib.Numerals.{add-one}
 use native.Mathlib.Omega.{arith}
-use borrow.Author.Tests.{le-leb, lt-leb}
+use borrow.Author.Tests.{le-leb, lt-leb, lt-ltb}
 use lib.ListN.{length, getD, take, drop, replicate, length-take, length-drop}
 use lib.Seq.{take-all}
 use Rattle.model.specs.declared.DecodeResult.{DecodeResult}
-use Rattle.model.specs.declared.Reply.the-variants.{Member, Finished}
+use Rattle.model.specs.declared.Reply.{Reply}
 use Rattle.model.specs.Outcome.{Outcome, refused, accepted, _>>=_, _>>_, number-of, Success, Sent, over, sent}
 use Rattle.model.specs.Lists.{Numbers, lists-from, lists-of}
 use Rattle.model.specs.Expression.{Tree}
@@ -24,15 +24,14 @@ use Rattle.model.specs.Program.{halves, listing-of, listing, listed, list-membe
 use Rattle.model.proofs.Accepted.{lists-accepted}
 use Rattle.model.proofs.Denoted.{members-few}
 use Rattle.model.proofs.Deliveries.{delivery-holds}
-use Rattle.model.proofs.DemandThree.{drawn}
 use Rattle.model.proofs.Laid.{ends-length, lists-length, laid-over}
 use Rattle.model.proofs.RoundTrips.{read-sends, lists-there}
 use Rattle.fields.specs.Rows.{lay}
-use Rattle.fields.proofs.Rows.{lay-take}
-use Rattle.listing.specs.declared.Page.{Page}
-use Rattle.listing.specs.Pages.{Drawing, page, Handed, page-of, laid-down}
+use Rattle.reader.specs.Rows.{Stands}
+use Rattle.pages.specs.declared.Page.{Page}
+use Rattle.pages.specs.Pages.{page, page-of, laid-down}
 use Rattle.listing.specs.Over.{Delivered-lists, list-over}
-use Rattle.listing.proofs.Pages.{page-all}
+use Rattle.pages.proofs.Laws.{asked, starts, holds-page}
 
 -- ---- behind the delivery
 
@@ -68,37 +67,21 @@ module _ (numbers ends packed lent : List ℕ) where
     over-lists h = rw (lists-length numbers 0 ends, f, le-leb (length ms) (length lent) h, zero-add (length ms))
 
     module _ (n : Numbers numbers) (d : Delivered-lists numbers ends) where
-      source : Source
-      source = record { lists = ls; tree = t }
-
-      is-source : source-of numbers ends packed ≡ accepted source
-      unfolding source-of source
-      is-source = rw (d .lists, f)
-
-      -- the run's replies are the members and one finished
-      replies : steps ls t (begin 0) (replicate (suc (length ms)) next) .0 ≡ map Member ms ++ (Finished ∷ [])
-      unfolding run drawn source
-      replies =
-          let m : ℕ = suc (length ms) in
-          let more : m - length ms ≡ 1 = omega arith in
-          drawn numbers ends packed n source is-source 0 (omega arith) .replies m ∙ ap₂ (λ (k : List ℕ) (i : ℕ). map Member k ++ replicate i Finished) (take-all m ms (omega arith)) more
-
       few : length ms ≤ 4096
       few = omega (arith, members-few ls t 0, d .few)
 
       -- in a page of 4,097 places
-      pub draws-all : (room : List ℕ) → length room ≡ 4097 → (r : Page) (row : List ℕ) → page-of r row ≡ laid-down (page ls t (begin 0) (length room)) room → All-drawn ls t r row
-      unfolding run laid-down
-      draws-all room long r row e =
-          let whole : page-of r row ≡ laid-down (ms, steps ls t (begin 0) (replicate (suc (length ms)) next) .1, true) room =
-          e ∙ ap (λ (d : Drawing). laid-down d room) (page-all ls t ms (begin 0) (length room) (omega (arith, few)) replies) in
-          let count : r .count ≡ length ms = ap (λ (h : Handed). h .0) whole in
-          let holds : take (r .count) row ≡ ms = ap₂ (λ (n : ℕ) (h : List ℕ). take n h) (count ∙ sym (zero-add (length ms))) (ap (λ (h : Handed). h .3) whole) ∙ lay-take room 0 ms (omega arith) in
+      pub draws-all : (nodes : List ℕ) → Stands (length ends) nodes t 0 → (room : List ℕ) → length room ≡ 4097 → (r : Page) (row : List ℕ) → page-of r row ≡ laid-down (page ls t (begin 0) (length room)) room → All-drawn ls t r row
+      unfolding run begin asked
+      draws-all nodes h room long r row e =
+          let p = holds-page ls t (begin 0) (starts numbers ends nodes n (d .lists) t h 0 (omega arith)) room r row e in
+          let count : r .count ≡ length ms = omega (arith, p .count, few) in
+          let ended : r .finished ≡ true = p .finished ∙ lt-ltb (length ms) (length room) (omega (arith, few)) in
           record {
             count = count;
-            moved = ap (λ (h : Handed). h .1 .readers .moves) whole;
-            holds = holds;
-            inside = omega (arith, length-take (r .count) row, ap (λ (l : List ℕ). length l) holds);
+            moved = ap (λ (q : List Reply × State). q .1 .readers .moves) (sym (p .ran)) ∙ ap₂ (λ (k : ℕ) (f : Bool). steps ls t (begin 0) (replicate (asked k f) next) .1 .readers .moves) count ended;
+            holds = p .holds ∙ take-all (r .count) ms (omega arith);
+            inside = omega (arith, p .count, p .long);
           }
 
 -- ---- the input

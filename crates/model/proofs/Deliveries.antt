@@ -11,7 +11,7 @@ use native.Mathlib.Nat.{add-zero}
 use lib.Dec.{ltb, leb, eqb}
 use borrow.Author.Tests.{ltb-true, ltb-false, lt-ltb, leb-true, le-leb, eqb-true, eq-eqb}
 use lib.ListN.{getD, length, replicate, length-append}
-use Rattle.model.specs.Outcome.{Outcome, accepted}
+use Rattle.model.specs.Outcome.{accepted}
 use Rattle.model.specs.Lists.{top, count-holds}
 use Rattle.model.specs.Sets.{all-numbers}
 use Rattle.model.specs.Fields.{Bytes, field, bits, take-field, only-fill}

@@ -19,7 +19,7 @@ use Rattle.model.specs.Forms.{read-packed}
 use Rattle.model.specs.Calls.{run-call}
 use Rattle.model.specs.Demands.{lengths, ran-all, Sound-run, Drawn, Broken, Demand-three, Third-demand, Third-demand-met}
 use Rattle.model.proofs.Order.{and-true, Up}
-use Rattle.model.proofs.Denoted.{up-ascending, members-up, from-up, members-from, members-from-are}
+use Rattle.model.proofs.Denoted.{up-ascending, members-up, members-from, members-from-up, members-from-are}
 use Rattle.model.proofs.Plain.{machine-append, draws}
 use Rattle.model.proofs.Join.{Small, All-small, join, last-low}
 use Rattle.model.proofs.Places.{sum-le, counted-run, summed-run}
@@ -143,18 +143,15 @@ module _ (l : Lent) (expression : List ℕ) (n : Numbers (l .numbers)) (s : Sour
   unfoldable pub drawn : (start : Start) → Low start → Drawn l expression s start
   drawn start h = record {
     members = ms;
-    ascend = up-ascending (start .bookmark) ms (from-up (start .bookmark) 0 (members (s .lists) (s .tree)) set-up);
+    ascend = up-ascending (start .bookmark) ms (members-from-up (s .lists) up (s .tree) (start .bookmark));
     every = members-from-are (s .lists) up (s .tree) (start .bookmark);
     result = λ k. run (s .lists) (s .tree) start (replicate k next);
     ran = λ k ds e lent f. rw (next-calls k ds e) at (ran start (replicate k 0) ds lent h (length-replicate k 0 ∙ sym e) (omega (arith, length-replicate k zero)));
-    replies = λ k. ap (λ p. p .0) (join (s .lists) up (s .tree) start h small (replicate k next) (small-nexts k)) ∙ draws (members (s .lists) (s .tree)) set-up (start .bookmark) h k;
+    replies = λ k. ap (λ p. p .0) (join (s .lists) up (s .tree) start h small (replicate k next) (small-nexts k)) ∙ draws (members (s .lists) (s .tree)) (members-up (s .lists) up (s .tree)) (start .bookmark) h k;
   }
     where
       ms : List ℕ
       ms = members-from (s .lists) (s .tree) (start .bookmark)
-
-      set-up : Up 0 (members (s .lists) (s .tree))
-      set-up = members-up (s .lists) up (s .tree)
 
   module _ (start : Start) (low : Low start) (codes ds : List ℕ) (paired : length codes ≡ length ds) (nd : Numbers ds) where
     all-of-them : All-small (calls codes ds)

@@ -237,14 +237,21 @@ from-among floor lo (x ∷ xs) u y = go (ltb x floor) refl (from-among floor (su
     go true h ih = ih ∙ skip (leb floor y) refl (ltb-true x floor h)
     go false h ih = keep (leb floor y) refl (ltb-false x floor h)
 
-pub from-zero : (xs : List ℕ) → from 0 xs ≡ xs
+pub from-all : (lo : ℕ) (xs : List ℕ) → Up lo xs → from lo xs ≡ xs
 unfolding from
-from-zero [] = refl
-from-zero (x ∷ xs) = rw (le-ltb x 0 (omega arith), from)
+from-all lo [] u = refl
+from-all lo (x ∷ xs) u = rw (le-ltb x lo (u .0), from)
+
+pub from-on : (floor x : ℕ) (xs : List ℕ) → x < floor → from floor (x ∷ xs) ≡ from floor xs
+unfolding from
+from-on floor x xs h = rw (lt-ltb x floor h, from)
 
 -- the members at or above a bookmark, ascending
 abbrev pub members-from : List (List ℕ) → Tree → ℕ → List ℕ
 members-from ls t bookmark = from bookmark (members ls t)
+
+pub members-from-up : (ls : List (List ℕ)) → ((k : ℕ) → Up 0 (getD ls k [])) → (t : Tree) (bookmark : ℕ) → Up bookmark (members-from ls t bookmark)
+members-from-up ls up t bookmark = from-up bookmark 0 (members ls t) (members-up ls up t)
 
 pub members-from-are : (ls : List (List ℕ)) → ((k : ℕ) → Up 0 (getD ls k [])) → (t : Tree) (bookmark x : ℕ) → among x (members-from ls t bookmark) ≡ leb bookmark x && member ls t x
 members-from-are ls up t bookmark x = from-among bookmark 0 (members ls t) (members-up ls up t) x ∙ ap (λ (b : Bool). leb bookmark x && b) (members-are ls t x)

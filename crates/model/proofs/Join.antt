@@ -3,14 +3,14 @@
 -- Between two calls a run keeps: at and above the floor, the residual set of the root is the denoted set. A seek keeps
 -- it because it leaves everything at and above where it sought to; a check because it leaves everything at and above
 -- its number. Assumes nothing.
-use mathlib.Core.Path.{_≡_, refl, sym, _∙_}
+use mathlib.Core.Path.{_≡_, refl, sym, ap, _∙_}
 use mathlib.Core.Bool.{Bool, true, false, _&&_, cond}
 use mathlib.Core.List.{List, [], _∷_}
 use Prim.Native.Nat.{ℕ, suc, _+_, _≤_, _<_, max}
 use native.Mathlib.Omega.{arith}
 use lib.Dec.{ltb, leb}
 use borrow.Author.Tests.{ltb-true, ltb-false, le-leb, lt-leb}
-use lib.ListN.{getD, length}
+use lib.ListN.{getD, length, drop}
 use Rattle.model.specs.declared.Reply.{Reply}
 use Rattle.model.specs.declared.Reply.the-variants.{Yes, No}
 use Rattle.model.specs.Lists.{top}
@@ -23,8 +23,8 @@ use Rattle.model.proofs.Order.{Up, untouched, none-moved}
 use Rattle.model.proofs.Residual.{After, Sought, residual, residual-some, residual-all}
 use Rattle.model.proofs.Seek.{seek-is}
 use Rattle.model.proofs.Check.{Told, check-is}
-use Rattle.model.proofs.Denoted.{members-up, members-are}
-use Rattle.model.proofs.Plain.{draw-none, draw-some}
+use Rattle.model.proofs.Denoted.{members-up, members-are, members-from}
+use Rattle.model.proofs.Plain.{first-of, draw-first, draw-rest, draw-none, draw-some}
 
 -- readers at the start have everything left
 module _ (ls : List (List ℕ)) (ps : List ℕ) (unmoved : (k : ℕ) → getD ps k 0 ≡ 0) (x : ℕ) where
@@ -151,3 +151,41 @@ module _ (ls : List (List ℕ)) (up : (k : ℕ) → Up 0 (getD ls k [])) (t : Tr
   pub last-low : (b : Start) → Low b → size t ≤ 48 → (cs : List Call) → All-small cs → Low (run ls t b cs .last)
   unfolding run
   last-low b bt st cs h = from-begin b bt st cs h .ok .low
+
+-- ---- between two calls, for what draws a next at a time
+
+-- a state that a run over ascending lists comes to
+pub record Between (ls : List (List ℕ)) (t : Tree) (s : State) : Type 0 where
+  pub up : (k : ℕ) → Up 0 (getD ls k [])
+  ok : Ok ls up t s
+
+pub begins : (ls : List (List ℕ)) → ((k : ℕ) → Up 0 (getD ls k [])) → (t : Tree) (b : Start) → Low b → size t ≤ 48 → Between ls t (begin b)
+unfolding steps
+begins ls up t b bt st = record { up = up; ok = from-begin ls up t b bt st [] tt .ok }
+
+-- a next, where ms are the members at or above the floor: the first of them, and the others are left
+pub record Next-drawn (ls : List (List ℕ)) (t : Tree) (ms : List ℕ) (p : Reply × State) : Type 0 where
+  pub says : p .0 ≡ first-of ms .0
+  pub floor : p .1 .floor ≡ first-of ms .1
+  pub left : members-from ls t (p .1 .floor) ≡ drop 1 ms
+  pub between : Between ls t (p .1)
+
+module _ (ls : List (List ℕ)) (t : Tree) (s : State) (b : Between ls t s) where
+  pub floor-low : s .floor ≤ top
+  floor-low = b .ok .low
+
+  -- after any calls it is such a state again
+  pub calls-between : (cs : List Call) → All-small cs → Between ls t (steps ls t s cs .1)
+  calls-between cs h = record { up = b .up; ok = all-joined ls (b .up) t cs h s (b .ok) .ok }
+
+  pub draws-next : Next-drawn ls t (members-from ls t (s .floor)) (step ls t s next)
+  unfolding reply
+  draws-next =
+      let j = step-joined ls (b .up) t s (b .ok) next tt in
+      let first = draw-first (members ls t) (s .floor) in
+      record {
+        says = j .same ∙ ap (λ (r : Reply × ℕ). r .0) first;
+        floor = j .floors ∙ ap (λ (r : Reply × ℕ). r .1) first;
+        left = ap (members-from ls t) (j .floors) ∙ draw-rest 0 (members ls t) (members-up ls (b .up) t) (s .floor) (b .ok .low);
+        between = record { up = b .up; ok = j .ok };
+      }

@@ -19,10 +19,10 @@ use Rattle.model.specs.Calls.{laid-out}
 use Rattle.model.specs.Program.{halves, Listing, listing-of, listing}
 use Rattle.model.specs.Demands.{nexts, Listed}
 use Rattle.model.proofs.Accepted.{accepted-same, bound, required}
-use Rattle.model.proofs.Denoted.{from-zero}
+use Rattle.model.proofs.Denoted.{members-up, from-all}
 use Rattle.model.proofs.Deliveries.{Delivered, delivery-holds}
 use Rattle.model.proofs.Laid.{ends-length, laid-numbers, laid}
-use Rattle.model.proofs.DemandThree.{drawn}
+use Rattle.model.proofs.DemandThree.{up, drawn}
 
 module _ (input : List ℕ) (stored : List ℕ × List ℕ) (is-stored : halves input ≡ accepted stored) (ls : List (List ℕ)) (is-lists : read-delivery 4096 32 (stored .1) ≡ accepted ls)
     (t : Tree) (is-tree : read-packed (there (length ls)) (stored .0) ≡ accepted t) where
@@ -41,7 +41,7 @@ module _ (input : List ℕ) (stored : List ℕ × List ℕ) (is-stored : halves 
   unfolding source drawn listing-of
   listed =
       let d = drawn (laid-out ls) (stored .0) (laid-numbers ls (holds .storable)) source is-source (starting 0) (omega arith) in
-      let all : d .members ≡ members ls t = from-zero (members ls t) in
+      let all : d .members ≡ members ls t = from-all 0 (members ls t) (members-up ls (up (laid-out ls) (stored .0) (laid-numbers ls (holds .storable)) source is-source) t) in
       let m : ℕ = suc (length (members ls t)) in
       let more : m - length (members ls t) ≡ 1 = omega arith in
       record {

@@ -8,14 +8,48 @@ use native.Mathlib.Omega.{arith}
 use native.Mathlib.Nat.{zero-sub, sub-zero, suc-sub-suc}
 use lib.Dec.{ltb, leb, eqb}
 use borrow.Author.Tests.{ltb-true, ltb-false, leb-true, le-leb, ne-eqb, eq-eqb}
-use lib.ListN.{length, take, replicate}
+use lib.ListN.{length, take, drop, replicate}
 use Rattle.model.specs.declared.Reply.{Reply}
 use Rattle.model.specs.declared.Reply.the-variants.{Member, Finished, Yes, No}
 use Rattle.model.specs.Lists.{top}
 use Rattle.model.specs.Sets.{among}
 use Rattle.model.specs.Machine.{Call, next, at-or-past, past, check, other, draw, reply, machine}
 use Rattle.model.proofs.Order.{not-both, split, Up, up-none}
-use Rattle.model.proofs.Denoted.{from, from-up, from-among}
+use Rattle.model.proofs.Denoted.{from, from-on, from-all, from-up, from-among}
+
+-- one turn of a draw
+abbrev turn : ℕ → List ℕ → ℕ → Bool → Reply × ℕ
+turn x set floor b = elim b [ true ↦ draw set floor | false ↦ (Member x, suc x) ]
+
+-- ---- a draw takes the first of the members at or above the floor, and leaves the others
+
+abbrev pub first-of : List ℕ → Reply × ℕ
+first-of [] = (Finished, top)
+first-of (m ∷ ms) = (Member m, suc m)
+
+pub draw-first : (set : List ℕ) (floor : ℕ) → draw set floor ≡ first-of (from floor set)
+unfolding draw from
+draw-first [] floor = refl
+draw-first (x ∷ set) floor = go (ltb x floor) (draw-first set floor)
+  where
+    go : (b : Bool) → draw set floor ≡ first-of (from floor set) → turn x set floor b ≡ first-of (elim b [ true ↦ from floor set | false ↦ x ∷ set ])
+    go true e = e
+    go false e = refl
+
+pub draw-rest : (lo : ℕ) (set : List ℕ) → Up lo set → (floor : ℕ) → floor ≤ top → from (draw set floor .1) set ≡ drop 1 (from floor set)
+unfolding draw from
+draw-rest lo [] u floor low = refl
+draw-rest lo (x ∷ set) u floor low = go (ltb x floor) refl (draw-rest (suc x) set (u .2) floor low)
+  where
+    -- a draw leaves no lower floor
+    raised : (p : Reply × ℕ) → p ≡ first-of (from floor set) → (ms : List ℕ) → Up floor ms → from floor set ≡ ms → floor ≤ p .1
+    raised p e [] v q = rw (e, q) low
+    raised p e (m ∷ ms) v q = rw (e, q) (omega (arith, v .0))
+
+    go : (b : Bool) → ltb x floor ≡ b → from (draw set floor .1) set ≡ drop 1 (from floor set)
+        → from (turn x set floor b .1) (x ∷ set) ≡ drop 1 (elim b [ true ↦ from floor set | false ↦ x ∷ set ])
+    go true h e = from-on (draw set floor .1) x set (omega (arith, ltb-true x floor h, raised (draw set floor) (draw-first set floor) (from floor set) (from-up floor (suc x) set (u .2)) refl)) ∙ e
+    go false h e = from-on (suc x) x set (omega arith) ∙ from-all (suc x) set (u .2)
 
 -- ---- the least member not below the floor
 
@@ -40,10 +74,6 @@ behind-none x y set h = go (eqb x y) (among x set) h
 first-there : (x : ℕ) (set : List ℕ) → among x (x ∷ set) ≡ true
 unfolding among
 first-there x set = cc (eq-eqb x x refl)
-
--- one turn of a draw
-abbrev turn : ℕ → List ℕ → ℕ → Bool → Reply × ℕ
-turn x set floor b = elim b [ true ↦ draw set floor | false ↦ (Member x, suc x) ]
 
 pub draw-none : (set : List ℕ) (floor : ℕ) → No-member set floor → draw set floor ≡ (Finished, top)
 unfolding draw

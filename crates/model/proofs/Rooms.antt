@@ -1,6 +1,6 @@
 -- Reading a delivery with room and without: with rows lent it is the reading without, or 6; and without, 6 never comes. By the
 -- lines of each `do` block. Assumes nothing.
-use mathlib.Core.Path.{_≡_, refl, sym, ap, _∙_}
+use mathlib.Core.Path.{_≡_, refl, sym, ap}
 use mathlib.Core.Bool.{Bool, true, false}
 use mathlib.Core.List.{List}
 use mathlib.Core.Option.{Option, none, some, Option·map}

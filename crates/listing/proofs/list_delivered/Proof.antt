@@ -82,7 +82,7 @@ drawn c =
     let r = tested c .before .before in
     let e = entry r in
     draws-all (e .args .numbers .now) (e .args .ends .now) (e .args .packed .now) (e .args .members .now) (read (tested c) .got) (read (tested c) .is)
-    (λ i. r .before .before .before .before .shared-slice-known .given i .fits) (e .pre) (replicate 4097 0) refl _ _ (c .draw-page .ensures .1 (read (tested c) .got) (stands (tested c)))
+    (λ i. r .before .before .before .before .shared-slice-known .given i .fits) (e .pre) _ (stands (tested c)) (replicate 4097 0) refl _ _ (c .draw-page .ensures .1 (read (tested c) .got) (stands (tested c)))
 
 refused-requires-2 : tie.Need-refused-requires-2
 refused-requires-2 c κs = search needs

@@ -13,7 +13,7 @@ use Rattle.model.specs.Run.{State, step}
 use Rattle.fields.specs.Rows.{lay}
 use Rattle.reader.specs.Rows.{Stands}
 use Rattle.engine.specs.States.{state-of}
-use Rattle.listing.specs.declared.Page.{Page}
+use Rattle.pages.specs.declared.Page.{Page}
 
 -- the members, the last state, and whether finished came
 abbrev pub Drawing : Type 0

@@ -17,9 +17,9 @@ use Rattle.model.proofs.Reply.{the-type}
 use Rattle.reader.specs.Rows.{Stands}
 use Rattle.reader.specs.Sought.{Tallied}
 use Rattle.engine.specs.States.{state-of, stepped-of}
-use Rattle.listing.proofs.Pages.{hands, hands-start, hands-full, hands-member, hands-ended}
-use Rattle.listing.proofs.draw_page.Statement.{statement}
-use Rattle.listing.proofs.draw_page.Tie as tie
+use Rattle.pages.proofs.Pages.{hands, hands-start, hands-full, hands-member, hands-ended}
+use Rattle.pages.proofs.draw_page.Statement.{statement}
+use Rattle.pages.proofs.draw_page.Tie as tie
 
 abbrev Inv-loop : tie.InvT-loop
 Inv-loop numbers ends nodes behind bookmark row₀ readers₀ floor₀ i₀ row readers floor i =

@@ -1,21 +1,19 @@
--- A page, turn by turn; and where its row is longer than there are members, it holds all of them and ends with finished. Assumes
--- nothing.
+-- A page, turn by turn. Assumes nothing.
 use mathlib.Core.Path.{_≡_, refl, sym, ap, ap₂, _∙_}
 use mathlib.Core.Bool.{true, false}
-use mathlib.Core.List.{List, [], _∷_, _++_, map}
-use Prim.Native.Nat.{ℕ, zero, suc, _+_, _-_, _≤_, _<_}
+use mathlib.Core.List.{List, [], _∷_}
+use Prim.Native.Nat.{ℕ, suc, _+_, _-_, _≤_, _<_}
 use native.Mathlib.Nat.{add-zero, zero-add}
 use native.Mathlib.Omega.{arith}
-use lib.ListN.{length, getD, set, drop, replicate, length-set}
+use lib.ListN.{length, set, length-set}
 use Rattle.model.specs.declared.Reply.{Reply}
 use Rattle.model.specs.declared.Reply.the-variants.{Member, Finished, Yes, No, Unknown}
 use Rattle.model.specs.Expression.{Tree}
-use Rattle.model.specs.Machine.{next}
 use Rattle.model.specs.Steps.{seek}
-use Rattle.model.specs.Run.{State, drawn, step, steps}
+use Rattle.model.specs.Run.{State, drawn, step}
 use Rattle.fields.specs.Rows.{lay}
 use Rattle.fields.proofs.Rows.{lay-nil, lay-cons}
-use Rattle.listing.specs.Pages.{Drawing, go-on, page, Handed, laid-down}
+use Rattle.pages.specs.Pages.{Drawing, go-on, page, Handed, laid-down}
 
 -- a drawing laid down from place i on
 abbrev placed : Drawing → List ℕ → ℕ → Handed
@@ -24,15 +22,15 @@ placed d row i = (i + length (d .0), d .1, d .2, lay row i (d .0))
 abbrev told : Drawing → ℕ → List ℕ → Handed
 told d n row = (n, d .1, d .2, row)
 
-abbrev more : ℕ → Drawing → Drawing
+abbrev pub more : ℕ → Drawing → Drawing
 more x d = (x ∷ d .0, d .1, d .2)
 
 -- by the reply
-goes-on : (rest : State → Drawing) (p : Reply × State) (x : ℕ) → p .0 ≡ Member x → go-on rest p ≡ more x (rest (p .1))
+pub goes-on : (rest : State → Drawing) (p : Reply × State) (x : ℕ) → p .0 ≡ Member x → go-on rest p ≡ more x (rest (p .1))
 unfolding go-on
 goes-on rest (r, s) x e = ap (λ (q : Reply). go-on rest (q, s)) e
 
-goes-no-further : (rest : State → Drawing) (p : Reply × State) → p .0 ≡ Finished → go-on rest p ≡ ([], p .1, true)
+pub goes-no-further : (rest : State → Drawing) (p : Reply × State) → p .0 ≡ Finished → go-on rest p ≡ ([], p .1, true)
 unfolding go-on
 goes-no-further rest (r, s) e = ap (λ (q : Reply). go-on rest (q, s)) e
 
@@ -87,14 +85,3 @@ module _ (ls : List (List ℕ)) (t : Tree) where
       ends (Yes, after) other = rw (lay-nil row i, add-zero i)
       ends (No, after) other = rw (lay-nil row i, add-zero i)
       ends (Unknown, after) other = rw (lay-nil row i, add-zero i)
-
-  -- all members and then finished: the page is those, and its last state is that behind the finished
-  pub page-all : (ms : List ℕ) (s : State) (n : ℕ) → length ms < n → steps ls t s (replicate (suc (length ms)) next) .0 ≡ map Member ms ++ (Finished ∷ [])
-      → page ls t s n ≡ (ms, steps ls t s (replicate (suc (length ms)) next) .1, true)
-  unfolding page steps
-  page-all ms s zero h e = absurd (omega arith)
-  page-all [] s (suc n) h e = goes-no-further _ (step ls t s next) (ap (λ (rs : List Reply). getD rs 0 Finished) e)
-  page-all (x ∷ ms) s (suc n) h e =
-      let after : State = step ls t s next .1 in
-      goes-on (λ s. page ls t s n) (step ls t s next) x (ap (λ (rs : List Reply). getD rs 0 Finished) e)
-      ∙ ap (more x) (page-all ms after n (omega arith) (ap (drop 1) e))
