@@ -12,38 +12,39 @@ use lib.Seq.{take-all}
 use Rattle.model.specs.declared.DecodeResult.{DecodeResult}
 use Rattle.model.specs.declared.Reply.{Reply}
 use Rattle.model.specs.Outcome.{Outcome, refused, accepted, _>>=_, _>>_, number-of, Success, Sent, over, sent}
-use Rattle.model.specs.Lists.{Numbers, lists-from, lists-of}
+use Rattle.model.specs.Lists.{Numbers, lists-from, lend, lists-of}
 use Rattle.model.specs.Expression.{Tree}
-use Rattle.model.specs.Sets.{all-numbers, members-from}
+use Rattle.model.specs.Sets.{all-numbers, members}
 use Rattle.model.specs.Machine.{next}
-use Rattle.model.specs.Run.{steps, begin, run, Source, source-of}
+use Rattle.model.specs.Run.{State, steps, starting, begin, run}
 use Rattle.model.specs.Forms.{there, read-packed}
 use Rattle.model.specs.Delivery.{read-delivery}
 use Rattle.model.specs.Calls.{counted, counted-refused, delivered, ends-from, decode-delivery}
 use Rattle.model.specs.Program.{halves, listing-of, listing, listed, list-members}
 use Rattle.model.proofs.Accepted.{lists-accepted}
-use Rattle.model.proofs.Denoted.{members-few}
+use Rattle.model.proofs.Denoted.{members-up, members-few, from-all}
 use Rattle.model.proofs.Deliveries.{delivery-holds}
 use Rattle.model.proofs.Laid.{ends-length, lists-length, laid-over}
 use Rattle.model.proofs.RoundTrips.{read-sends, lists-there}
 use Rattle.fields.specs.Rows.{lay}
+use Rattle.lists.proofs.Spans.{counts, readable, readable-up}
 use Rattle.reader.specs.Rows.{Stands}
 use Rattle.pages.specs.declared.Page.{Page}
 use Rattle.pages.specs.Pages.{page, page-of, laid-down}
-use Rattle.listing.specs.Over.{Delivered-lists, list-over}
 use Rattle.pages.proofs.Laws.{asked, starts, holds-page}
+use Rattle.listing.specs.Over.{Delivered-lists, list-over}
 
 -- ---- behind the delivery
 
 -- the moves of one run: a next for each member and one more
 abbrev pub moves-of : List (List ℕ) → Tree → ℕ
-moves-of ls t = run ls t 0 (replicate (suc (length (members-from ls t 0))) next) .moves
+moves-of ls t = run ls t (starting 0) (replicate (suc (length (members ls t))) next) .moves
 
 -- a page that holds every member
 pub record All-drawn (ls : List (List ℕ)) (t : Tree) (r : Page) (row : List ℕ) : Type 0 where
-  pub count : r .count ≡ length (members-from ls t 0)
+  pub count : r .count ≡ length (members ls t)
   pub moved : r .readers .moves ≡ moves-of ls t
-  pub holds : take (r .count) row ≡ members-from ls t 0
+  pub holds : take (r .count) row ≡ members ls t
   pub inside : r .count ≤ length row
 
 module _ (numbers ends packed lent : List ℕ) where
@@ -56,7 +57,7 @@ module _ (numbers ends packed lent : List ℕ) where
 
   module _ (t : Tree) (f : read-packed (there (length ends)) packed ≡ accepted t) where
     abbrev ms : List ℕ
-    ms = members-from ls t 0
+    ms = members ls t
 
     pub over-short : length lent < length ms → counted (counted-refused 6) lent ≡ list-over ls packed lent
     unfolding list-over sent listed listing-of
@@ -68,18 +69,18 @@ module _ (numbers ends packed lent : List ℕ) where
 
     module _ (n : Numbers numbers) (d : Delivered-lists numbers ends) where
       few : length ms ≤ 4096
-      few = omega (arith, members-few ls t 0, d .few)
+      few = omega (arith, members-few ls t, d .few)
 
       -- in a page of 4,097 places
-      pub draws-all : (nodes : List ℕ) → Stands (length ends) nodes t 0 → (room : List ℕ) → length room ≡ 4097 → (r : Page) (row : List ℕ) → page-of r row ≡ laid-down (page ls t (begin 0) (length room)) room → All-drawn ls t r row
+      pub draws-all : (nodes : List ℕ) → Stands (length ends) nodes t 0 → (room : List ℕ) → length room ≡ 4097 → (r : Page) (row : List ℕ) → page-of r row ≡ laid-down (page ls t (begin (starting 0)) (length room)) room → All-drawn ls t r row
       unfolding run begin asked
       draws-all nodes h room long r row e =
-          let p = holds-page ls t (begin 0) (starts numbers ends nodes n (d .lists) t h 0 (omega arith)) room r row e in
+          let p = rw (from-all 0 ms (members-up ls (readable-up numbers ends n (d .lists)) t)) at (holds-page ls t (begin (starting 0)) (starts numbers ends nodes n (d .lists) t h (starting 0) (omega arith)) room r row e) in
           let count : r .count ≡ length ms = omega (arith, p .count, few) in
           let ended : r .finished ≡ true = p .finished ∙ lt-ltb (length ms) (length room) (omega (arith, few)) in
           record {
             count = count;
-            moved = ap (λ (q : List Reply × State). q .1 .readers .moves) (sym (p .ran)) ∙ ap₂ (λ (k : ℕ) (f : Bool). steps ls t (begin 0) (replicate (asked k f) next) .1 .readers .moves) count ended;
+            moved = ap (λ (q : List Reply × State). q .1 .readers .moves) (sym (p .ran)) ∙ ap₂ (λ (k : ℕ) (f : Bool). steps ls t (begin (starting 0)) (replicate (asked k f) next) .1 .readers .moves) count ended;
             holds = p .holds ∙ take-all (r .count) ms (omega arith);
             inside = omega (arith, p .count, p .long);
           }
@@ -171,11 +172,11 @@ module _ (bytes numbers ends : List ℕ) (long : length numbers ≡ 4096) (many 
       let holds = delivery-holds 4096 32 bytes ls f in
       let count : r .lists ≡ length ls = ap (λ (s : Sent). getD (s .parts) 0 0) whole in
       let stops-are : take (r .lists) stops ≡ ends-from 0 ls = ap₂ (λ (n : ℕ) (s : Sent). take n (getD (s .rows) 1 [])) count whole ∙ lists-there ends ls in
-      let is : lists-of row (take (r .lists) stops) ≡ accepted ls =
-      ap₂ (λ (s : Sent) (k : List ℕ). lists-of (getD (s .rows) 0 []) k) whole stops-are ∙ laid-over ls (drop (length (all-numbers ls)) numbers) (holds .count) (holds .storable) in
-      let are : lists-from row 0 (take (r .lists) stops) ≡ ls = lists-accepted row (take (r .lists) stops) ls is .are in
+      let is : lists-of (lend row (take (r .lists) stops)) ≡ accepted ls =
+      ap₂ (λ (s : Sent) (k : List ℕ). lists-of (lend (getD (s .rows) 0 []) k)) whole stops-are ∙ laid-over ls (drop (length (all-numbers ls)) numbers) (holds .count) (holds .storable) in
+      let are : lists-from row 0 (take (r .lists) stops) ≡ ls = lists-accepted (lend row (take (r .lists) stops)) ls is .are in
       record {
         inside = omega (arith, length-take (r .lists) stops, ap (λ (l : List ℕ). length l) stops-are, ends-length 0 ls);
         lists-are = are;
-        delivered-lists = record { lists = is ∙ ap accepted (sym are); few = rw are (holds .numbers) };
+        delivered-lists = record { lists = readable _ ls is; many = counts _ (lists-accepted _ ls is .count) .1; few = rw are (holds .numbers) };
       }

@@ -1,17 +1,18 @@
 -- The work of `members` behind its delivery.
-use mathlib.Core.Path.{_≡_}
 use mathlib.Core.List.{List, [], _∷_}
 use Prim.Native.Nat.{ℕ, _≤_}
 use lib.ListN.{length}
-use Rattle.model.specs.Outcome.{accepted, _>>=_, Sent, sent}
-use Rattle.model.specs.Lists.{lists-from, lists-of}
+use Rattle.model.specs.Outcome.{_>>=_, Sent, sent}
+use Rattle.model.specs.Lists.{lists-from}
 use Rattle.model.specs.Sets.{all-numbers}
 use Rattle.model.specs.Forms.{there, read-packed}
 use Rattle.model.specs.Program.{listing-of, listed}
+use Rattle.lists.specs.Readable.{Readable}
 
--- lists that were delivered: accepted, of at most 4,096 numbers in all
+-- lists that were delivered: they can be read, and are at most 32, of at most 4,096 numbers in all
 pub record Delivered-lists (numbers ends : List ℕ) : Type 0 where
-  pub lists : lists-of numbers ends ≡ accepted (lists-from numbers 0 ends)
+  pub lists : Readable numbers ends
+  pub many : length ends ≤ 32
   pub few : length (all-numbers (lists-from numbers 0 ends)) ≤ 4096
 
 -- "then the expression"; then its members into the lent row

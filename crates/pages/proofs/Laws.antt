@@ -12,19 +12,19 @@ use lib.ListN.{length, take, drop, replicate, length-take, drop-of-length-le}
 use lib.Seq.{take-all}
 use Rattle.model.specs.declared.Reply.{Reply}
 use Rattle.model.specs.declared.Reply.the-variants.{Member, Finished}
-use Rattle.model.specs.Outcome.{accepted}
-use Rattle.model.specs.Lists.{top, Numbers, lists-from, lists-of}
+use Rattle.model.specs.Lists.{top, Numbers, lists-from}
 use Rattle.model.specs.Expression.{Tree}
-use Rattle.model.specs.Sets.{among, member, members-from}
+use Rattle.model.specs.Sets.{among, member}
 use Rattle.model.specs.Machine.{next}
 use Rattle.model.specs.Steps.{Found, end, at, seek}
-use Rattle.model.specs.Run.{State, drawn, step, steps, begin}
-use Rattle.model.proofs.Accepted.{accepted-up}
+use Rattle.model.specs.Run.{State, drawn, step, steps, Start, Low, begin}
 use Rattle.model.proofs.Order.{split, Up, up-drop, up-none}
-use Rattle.model.proofs.Denoted.{members-up, members-are}
+use Rattle.model.proofs.Denoted.{members-from, members-from-up, members-from-are}
 use Rattle.model.proofs.Join.{Between, begins, floor-low, Next-drawn, draws-next}
 use Rattle.fields.specs.Rows.{lay}
 use Rattle.fields.proofs.Rows.{lay-take, lay-drop, lay-length}
+use Rattle.lists.specs.Readable.{Readable}
+use Rattle.lists.proofs.Spans.{readable-up}
 use Rattle.reader.specs.Rows.{Stands}
 use Rattle.reader.proofs.Standing.{inside}
 use Rattle.engine.specs.States.{state-of}
@@ -130,9 +130,9 @@ module _ (ls : List (List ℕ)) (t : Tree) where
 -- ---- of a state between two calls
 
 -- a run's first state is one, by what a page asks of its caller
-pub starts : (numbers ends nodes : List ℕ) → Numbers numbers → lists-of numbers ends ≡ accepted (lists-from numbers 0 ends) → (t : Tree) → Stands (length ends) nodes t 0
-    → (bookmark : ℕ) → bookmark ≤ top → Between (lists-from numbers 0 ends) t (begin bookmark)
-starts numbers ends nodes n e t h bookmark low = begins _ (accepted-up numbers ends _ n e) t bookmark low (omega (arith, inside (length ends) nodes t 0 h))
+pub starts : (numbers ends nodes : List ℕ) → Numbers numbers → Readable numbers ends → (t : Tree) → Stands (length ends) nodes t 0
+    → (start : Start) → Low start → Between (lists-from numbers 0 ends) t (begin start)
+starts numbers ends nodes n r t h start low = begins _ (readable-up numbers ends n r) t start low (omega (arith, inside (length ends) nodes t 0 h))
 
 -- a page of n places where ms are the members at or above the floor: the first n of them; the others are left, and finished came
 -- exactly if there were fewer than n
@@ -222,8 +222,8 @@ module _ (ls : List (List ℕ)) (t : Tree) where
         let d = drawn-page n s b in
         let ms : List ℕ = members-from ls t (s .floor) in
         ap (among x) (d .members)
-        ∙ cut x (s .floor) n ms (members-up ls (b .up) t (s .floor))
-        ∙ ap₂ (λ (i j : Bool). i && not j) (members-are ls (b .up) t (s .floor) x) (ap (among x) (sym (d .left)) ∙ members-are ls (b .up) t (page ls t s n .1 .floor) x)
+        ∙ cut x (s .floor) n ms (members-from-up ls (b .up) t (s .floor))
+        ∙ ap₂ (λ (i j : Bool). i && not j) (members-from-are ls (b .up) t (s .floor) x) (ap (among x) (sym (d .left)) ∙ members-from-are ls (b .up) t (page ls t s n .1 .floor) x)
         ∙ sides x (s .floor) (page ls t s n .1 .floor) (member ls t x)
 
     -- the floor rises by as much as there are members, or more: so much for what counts them, and for what goes on until finished
@@ -231,7 +231,7 @@ module _ (ls : List (List ℕ)) (t : Tree) where
     page-rises = go (page ls t s n .2) refl
       where
         up : Up (s .floor) (page ls t s n .0)
-        up = rw (drawn-page n s b .members) (up-take (s .floor) n (members-from ls t (s .floor)) (members-up ls (b .up) t (s .floor)))
+        up = rw (drawn-page n s b .members) (up-take (s .floor) n (members-from ls t (s .floor)) (members-from-up ls (b .up) t (s .floor)))
 
         go : (f : Bool) → page ls t s n .2 ≡ f → s .floor + length (page ls t s n .0) ≤ page ls t s n .1 .floor
         go true e = omega (arith, rw e at (page-floor ls t n s), behind-up (s .floor) (page ls t s n .0) up (floor-low ls t s b))

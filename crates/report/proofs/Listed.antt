@@ -41,7 +41,7 @@ listing-few : (input : List ℕ) → Few (listing input)
 unfolding listing listing-of
 listing-few input =
     few-test 6 (leb (length input) 65535) _ (few-then (halves input) _ (λ hs _. few-then (read-delivery 4096 32 (hs .1)) _ (λ ls d. few-then (read-packed (there (length ls)) (hs .0)) _
-    (λ t _. few-right (listing-of ls t) (omega (arith, members-few ls t 0, delivery-holds 4096 32 (hs .1) ls d .numbers))))))
+    (λ t _. few-right (listing-of ls t) (omega (arith, members-few ls t, delivery-holds 4096 32 (hs .1) ls d .numbers))))))
 
 -- ---- a refusal's number is not 0
 

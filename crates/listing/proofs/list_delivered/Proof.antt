@@ -7,10 +7,9 @@ use native.Mathlib.Omega.{arith}
 use borrow.Author.Needs.{needs}
 use lib.ListN.{length, replicate, length-take}
 use Rattle.model.specs.declared.MembersResult.{MembersResult}
-use Rattle.model.specs.Outcome.{number-of}
 use Rattle.model.specs.Lists.{lists-from}
 use Rattle.model.specs.Run.{begin}
-use Rattle.model.specs.Sets.{members-from}
+use Rattle.model.specs.Sets.{members}
 use Rattle.model.specs.Forms.{there, read-packed}
 use Rattle.model.specs.Calls.{counted, counted-refused}
 use Rattle.model.proofs.Told.{Success-of, refused-by}
@@ -34,11 +33,10 @@ read c =
 
 -- and stands at the first node
 stands : (c : tie.Else1) → let args = entry (c .before .before) .args in Stands (length (args .ends .now)) (c .before .before .read-expression .result .nodes) (read c .got) 0
-unfolding number-of
 stands c =
     let e = c .before .before in
     let args = entry e .args in
-    read-stands (args .numbers .now) (args .ends .now) (args .packed .now) (read c .got) (ap number-of (entry e .pre .lists)) (read c .is) (e .read-expression .ensures)
+    read-stands (length (args .ends .now)) (args .packed .now) (read c .got) (entry e .pre .many) (read c .is) (e .read-expression .ensures)
 
 -- a refusal handed back
 handed : (lent : List ℕ) {r : MembersResult} {n : ℕ} → r ≡ counted-refused n → counted r lent ≡ counted (counted-refused n) lent
@@ -115,7 +113,7 @@ returns-3 c =
     let args = entry (tested (p d) .before .before) .args in
     let all = drawn (p d) in
     ap₂ (λ (n m : ℕ). counted (record { number = 0; count = n; moves = m }) (c .before .before .before .copy-out .last .0)) (all .count) (all .moved)
-    ∙ ap (λ (row : List ℕ). counted (record { number = 0; count = length (members-from (lists-from (args .numbers .now) 0 (args .ends .now)) (read (tested (p d)) .got) 0); moves = moves-of (lists-from (args .numbers .now) 0 (args .ends .now)) (read (tested (p d)) .got) }) row)
+    ∙ ap (λ (row : List ℕ). counted (record { number = 0; count = length (members (lists-from (args .numbers .now) 0 (args .ends .now)) (read (tested (p d)) .got)); moves = moves-of (lists-from (args .numbers .now) 0 (args .ends .now)) (read (tested (p d)) .got) }) row)
     (c .before .before .before .copy-out .ensures ∙ ap (lay (args .members .now) 0) (all .holds))
     ∙ over-lists (args .numbers .now) (args .ends .now) (args .packed .now) (args .members .now) _ (read (tested (p d)) .is) (omega (arith, all .count, d .before .before .if2 .left))
 
