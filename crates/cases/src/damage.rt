@@ -1,6 +1,7 @@
 // Inputs that are mostly to be refused.
 use crate::dice::pick;
 use crate::dice::roll;
+use crate::inputs::Begin;
 use crate::inputs::Bytes;
 use crate::inputs::Lists;
 use crate::inputs::narrow;
@@ -162,7 +163,7 @@ pub fn damaged_lists(case: u64, l: Lists) -> Lists
 }
 
 // The bookmark in 90 of 100 cases, and else one above 4294967296: the next one, or the largest.
-pub fn bad_bookmark(case: u64, b: u64) -> u64 {
+fn bad_bookmark(case: u64, b: u64) -> u64 {
     let p = pick(case, MARK, 0, 100);
     if p < 90 {
         return b;
@@ -171,4 +172,11 @@ pub fn bad_bookmark(case: u64, b: u64) -> u64 {
         return 4294967297;
     }
     18446744073709551615
+}
+
+// Where a run begins, which may be refused.
+pub fn bad_begins(case: u64, b: Begin) -> Begin {
+    let mut d = b;
+    d.bookmark = bad_bookmark(case, b.bookmark);
+    d
 }

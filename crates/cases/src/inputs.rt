@@ -22,6 +22,11 @@ pub struct Calls {
     pub count: usize,
 }
 
+// Where a run begins.
+pub struct Begin {
+    pub bookmark: u64,
+}
+
 // A packed expression.
 pub struct Bytes {
     pub bytes: [u8; 64],

@@ -1,6 +1,7 @@
-// Calls, bookmarks, and where a run is broken off.
+// Calls, and where a run begins and is broken off.
 use crate::dice::pick;
 use crate::dice::roll;
+use crate::inputs::Begin;
 use crate::inputs::Calls;
 use crate::inputs::Lists;
 use crate::inputs::narrow;
@@ -235,7 +236,7 @@ pub fn calls(case: u64, l: Lists) -> Calls
 
 // A bookmark: 0 in 60 of 100 cases, 4294967296 and 4294967295 in 5 each, a list number in 12, one
 // more than a list number in 10, any in 8.
-pub fn bookmark(case: u64, l: Lists) -> u64
+fn bookmark(case: u64, l: Lists) -> u64
     ensures { λ r. ⌜ r ≤ 4294967296 ⌝ }
 {
     let p = pick(case, BOOKMARK, 0, 100);
@@ -255,6 +256,13 @@ pub fn bookmark(case: u64, l: Lists) -> u64
         return listed(case, 1000, l) + 1;
     }
     roll(case, BOOKMARK, 1) % 4294967297
+}
+
+// Where a run over these lists begins.
+pub fn begins(case: u64, l: Lists) -> Begin {
+    Begin {
+        bookmark: bookmark(case, l),
+    }
 }
 
 // Where a run of so many calls is broken off: before the first in 15 of 100 cases, after the last in

@@ -4,9 +4,15 @@ use crate::MARK;
 use crate::MEMBERS;
 use crate::NUMBER;
 use crate::REPLIES;
+use crate::lent::first;
+use crate::lent::last_of;
+use crate::lent::same_begin;
 use crate::rows;
 use cases::first_bytes;
 use cases::first_numbers;
+use evaluator::Begin;
+use evaluator::Lists;
+use model::RunResult;
 ghost use Prim.Native.Nat.{_<_};
 
 const FINISHED: u64 = 4294967298;
@@ -44,28 +50,27 @@ fn not_asked() -> Difference {
 // A run into so many places, at most 64, of a reply row that held its marks: the number, the whole row and the bookmark.
 pub fn run(
     numbers: &[u32],
-    ends: &[u32],
+    lists: Lists,
     packed: &[u8],
-    bookmark: u64,
+    begin: Begin,
     codes: &[u8],
     arguments: &[u32],
     room: usize,
-    number: u32,
-    last: u64,
+    ran: RunResult,
     replies: &[u64],
 ) -> Difference {
     let n = room % 65;
     let mut others = [MARK; 64];
     let other = evaluator::answer(
         numbers,
-        ends,
+        lists,
         packed,
-        bookmark,
+        begin,
         codes,
         arguments,
         &mut others[0..n],
     );
-    if other.number != number {
+    if other.number != ran.number {
         return differs(NUMBER, 0, rows::wide(other.number));
     }
     let row = rows::all_64(&others);
@@ -73,8 +78,9 @@ pub fn run(
     if at < replies.len() {
         return differs(REPLIES, at, rows::element(row, at));
     }
-    if other.bookmark != last {
-        return differs(BOOKMARK, 0, other.bookmark);
+    let last = other.last;
+    if !same_begin(last, last_of(ran)) {
+        return differs(BOOKMARK, 0, last.bookmark);
     }
     none()
 }
@@ -96,7 +102,7 @@ fn list_number(drawn: u32, behind: u64) -> u32 {
 // Members listed into so many places, at most 4,096: the number, or each member and that it is the last.
 pub fn list(
     numbers: &[u32],
-    ends: &[u32],
+    lists: Lists,
     packed: &[u8],
     room: usize,
     number: u32,
@@ -109,9 +115,9 @@ pub fn list(
     let nexts = to_draw(number, count, room) % 4097 + 1;
     let drawn = evaluator::answer(
         numbers,
-        ends,
+        lists,
         packed,
-        0,
+        first(),
         first_bytes(&codes, nexts),
         first_numbers(&zeros, nexts),
         &mut replies,
@@ -173,6 +179,6 @@ fn delivered(
         return not_asked();
     }
     let numbers = first_numbers(&row, got.numbers);
-    let ends = first_numbers(&stops, got.lists);
-    list(numbers, ends, packed, room, number, count, members)
+    let lists = evaluator::laid(first_numbers(&stops, got.lists));
+    list(numbers, lists, packed, room, number, count, members)
 }

@@ -1,15 +1,21 @@
 // One generated case given to the engine and to the second evaluator: both stored forms written and read back, a run, the run
 // broken off and resumed, and the program's list.
 pub mod evaluated;
+pub mod lent;
 mod rows;
 mod stored;
 pub mod totals;
 
 use cases::Bytes;
 use cases::Calls;
-use cases::Lists;
 use cases::first_bytes;
 use cases::first_numbers;
+use evaluator::Begin;
+use evaluator::Lists;
+use lent::begin_of;
+use lent::last_of;
+use lent::lists_of;
+use lent::same_begin;
 pub use rows::all_64;
 use rows::are_joined;
 use rows::are_places;
@@ -29,7 +35,7 @@ pub struct Verdict {
     pub differs: u32,
     pub number: u32,
     pub moves: u32,
-    pub bookmark: u64,
+    pub last: Begin,
     pub replies: [u64; 32],
 }
 
@@ -55,15 +61,15 @@ fn failed(what: u32) -> Verdict {
         differs: what,
         number: 0,
         moves: 0,
-        bookmark: 0,
+        last: lent::first(),
         replies: [MARK; 32],
     }
 }
 
 // How far each node's reader can have moved: to the end of its list; not at all in a run that is refused.
-fn bounds(number: u32, numbers: &[u32], ends: &[u32], packed: &[u8]) -> [u32; 48] {
+fn bounds(number: u32, numbers: &[u32], lists: Lists, packed: &[u8]) -> [u32; 48] {
     if number == 0 {
-        return evaluator::lengths(numbers, ends, packed);
+        return evaluator::lengths(numbers, lists, packed);
     }
     [0; 48]
 }
@@ -71,48 +77,47 @@ fn bounds(number: u32, numbers: &[u32], ends: &[u32], packed: &[u8]) -> [u32; 48
 // One run by both, into so many replies, at most 32: number, the whole reply row, bookmark, and the places within their bounds.
 fn run_both(
     numbers: &[u32],
-    ends: &[u32],
+    lists: Lists,
     packed: &[u8],
-    bookmark: u64,
+    begin: Begin,
     codes: &[u8],
     arguments: &[u32],
     room: usize,
 ) -> Verdict {
     let n = room % 33;
     let mut replies = [MARK; 32];
-    let r = engine::run(
+    let r = lent::run(
         numbers,
-        ends,
+        lists,
         packed,
-        bookmark,
+        begin,
         codes,
         arguments,
         &mut replies[0..n],
     );
     let d = evaluated::run(
         numbers,
-        ends,
+        lists,
         packed,
-        bookmark,
+        begin,
         codes,
         arguments,
         n,
-        r.number,
-        r.bookmark,
+        r,
         rows::all_32(&replies),
     );
     if d.what != 0 {
         return failed(d.what);
     }
     let places = r.places;
-    if !are_places(places, bounds(r.number, numbers, ends, packed), r.moves) {
+    if !are_places(places, bounds(r.number, numbers, lists, packed), r.moves) {
         return failed(PLACES);
     }
     Verdict {
         differs: 0,
         number: r.number,
         moves: r.moves,
-        bookmark: r.bookmark,
+        last: last_of(r),
         replies,
     }
 }
@@ -121,54 +126,55 @@ fn run_both(
 // those of the whole run, and the places of each within their bounds.
 fn breaks(
     numbers: &[u32],
-    ends: &[u32],
+    lists: Lists,
     packed: &[u8],
-    bookmark: u64,
+    begin: Begin,
     codes: &[u8],
     arguments: &[u32],
     k: usize,
     whole: &[u64; 32],
-    last: u64,
+    last: Begin,
 ) -> bool {
     let mut one = [MARK; 32];
-    let first = engine::run(
+    let first = lent::run(
         numbers,
-        ends,
+        lists,
         packed,
-        bookmark,
+        begin,
         first_bytes(codes, k),
         first_numbers(arguments, k),
         &mut one,
     );
     let mut two = [MARK; 32];
-    let second = engine::run(
+    let second = lent::run(
         numbers,
-        ends,
+        lists,
         packed,
-        first.bookmark,
+        last_of(first),
         last_bytes(codes, k),
         last_numbers(arguments, k),
         &mut two,
     );
-    let bound = evaluator::lengths(numbers, ends, packed);
+    let bound = evaluator::lengths(numbers, lists, packed);
     let first_places = first.places;
     let second_places = second.places;
     let placed = are_places(first_places, bound, first.moves)
         && are_places(second_places, bound, second.moves);
     let accepted = first.number == 0 && second.number == 0;
-    accepted && placed && second.bookmark == last && are_joined(whole, &one, &two, k)
+    let ended = same_begin(last_of(second), last);
+    accepted && placed && ended && are_joined(whole, &one, &two, k)
 }
 
 // How far the readers move in a run of so many nexts, at most 513.
-fn moves_of(numbers: &[u32], ends: &[u32], packed: &[u8], nexts: usize) -> u32 {
+fn moves_of(numbers: &[u32], lists: Lists, packed: &[u8], nexts: usize) -> u32 {
     let codes = [0u8; 513];
     let zeros = [0u32; 513];
     let mut replies = [MARK; 513];
-    let r = engine::run(
+    let r = lent::run(
         numbers,
-        ends,
+        lists,
         packed,
-        0,
+        lent::first(),
         first_bytes(&codes, nexts),
         first_numbers(&zeros, nexts),
         &mut replies,
@@ -178,41 +184,41 @@ fn moves_of(numbers: &[u32], ends: &[u32], packed: &[u8], nexts: usize) -> u32 {
 
 // Whether the program's work lists every member that the evaluator draws by next, nothing behind them, and its moves are those of a
 // run of a next for each and one more; or is refused by the evaluator's number, with its row as it was.
-fn is_listed(numbers: &[u32], ends: &[u32], packed: &[u8], input: &[u8]) -> bool {
+fn is_listed(numbers: &[u32], lists: Lists, packed: &[u8], input: &[u8]) -> bool {
     let mut members = [MARK_32; 512];
     let listed = listing::list_members(input, &mut members);
     let count = listed.count;
     if !hold(&members, count, MARK_32) {
         return false;
     }
-    let d = evaluated::list(numbers, ends, packed, 512, listed.number, count, &members);
+    let d = evaluated::list(numbers, lists, packed, 512, listed.number, count, &members);
     if d.what != 0 {
         return false;
     }
     if listed.number != 0 {
         return count == 0 && listed.moves == 0;
     }
-    listed.moves == moves_of(numbers, ends, packed, count % 513 + 1)
+    listed.moves == moves_of(numbers, lists, packed, count % 513 + 1)
 }
 
 // The program's input, the expression's length, the expression and the delivery, and whether it is listed.
-fn lists(numbers: &[u32], ends: &[u32], packed: &[u8], delivery: &[u8]) -> bool {
+fn lists_all(numbers: &[u32], lists: Lists, packed: &[u8], delivery: &[u8]) -> bool {
     let mut input = [0u8; 5120];
     let n = packed.len() % 256;
     rows::lay(&mut input, 0, &[n as u8]);
     rows::lay(&mut input, 1, packed);
     rows::lay(&mut input, n + 1, delivery);
     let size = n + 1 + delivery.len() % 4097;
-    is_listed(numbers, ends, packed, first_bytes(&input, size))
+    is_listed(numbers, lists, packed, first_bytes(&input, size))
 }
 
 // A case's calls, by both, whole and broken off; then the program's list.
 fn compare_calls(
     numbers: &[u32],
-    ends: &[u32],
+    lists: Lists,
     packed: &[u8],
     d: Delivery,
-    bookmark: u64,
+    begin: Begin,
     c: Calls,
     k: usize,
 ) -> Verdict {
@@ -222,25 +228,26 @@ fn compare_calls(
     let run_numbers = first_numbers(&arguments, c.count);
     let bytes = d.bytes;
     let delivery = first_bytes(&bytes, d.count);
-    let v = run_both(numbers, ends, packed, bookmark, run_codes, run_numbers, 32);
+    let v = run_both(numbers, lists, packed, begin, run_codes, run_numbers, 32);
     let whole = v.replies;
     if v.differs != 0 {
         return v;
     }
+    let last = v.last;
     if !breaks(
         numbers,
-        ends,
+        lists,
         packed,
-        bookmark,
+        begin,
         run_codes,
         run_numbers,
         k,
         &whole,
-        v.bookmark,
+        last,
     ) {
         return failed(BROKEN);
     }
-    if !lists(numbers, ends, packed, delivery) {
+    if !lists_all(numbers, lists, packed, delivery) {
         return failed(MEMBERS);
     }
     v
@@ -249,9 +256,9 @@ fn compare_calls(
 // A case's lists, packed expression and bookmark. Where it is damaged, a third of the cases have their expression damaged, a third
 // their lists, and any may have its bookmark damaged.
 pub struct Made {
-    pub lists: Lists,
+    pub lists: cases::Lists,
     pub expression: Bytes,
-    pub bookmark: u64,
+    pub begin: cases::Begin,
 }
 
 fn worse_expression(case: u64, made: Bytes) -> Bytes {
@@ -261,7 +268,7 @@ fn worse_expression(case: u64, made: Bytes) -> Bytes {
     made
 }
 
-fn worse_lists(case: u64, made: Lists) -> Lists {
+fn worse_lists(case: u64, made: cases::Lists) -> cases::Lists {
     if case % 3 == 1 {
         return cases::damaged_lists(case, made);
     }
@@ -269,43 +276,42 @@ fn worse_lists(case: u64, made: Lists) -> Lists {
 }
 
 // The expression is packed by the engine; whether it reads back is compared beside it.
-fn packed_of(case: u64, lists: usize) -> Packed {
-    let e = cases::expression(case, lists);
+fn packed_of(case: u64, lists: Lists) -> Packed {
+    let e = cases::expression(case, lists.count);
     let row = e.bytes;
     stored::pack(first_bytes(&row, e.count), lists)
 }
 
 pub fn inputs(case: u64, damaged: bool) -> Made {
     let lists = cases::lists(case);
-    let packed = packed_of(case, lists.count);
+    let packed = packed_of(case, lists_of(lists));
     let expression = packed.expression;
-    let bookmark = cases::bookmark(case, lists);
+    let begin = cases::begins(case, lists);
     if !damaged {
         return Made {
             lists,
             expression,
-            bookmark,
+            begin,
         };
     }
     Made {
         lists: worse_lists(case, lists),
         expression: worse_expression(case, expression),
-        bookmark: cases::bad_bookmark(case, bookmark),
+        begin: cases::bad_begins(case, begin),
     }
 }
 
 // One case, all of it to be accepted.
 fn compare(case: u64) -> Verdict {
     let l = cases::lists(case);
-    let packed = packed_of(case, l.count);
+    let lists = lists_of(l);
+    let packed = packed_of(case, lists);
     let x = packed.expression;
     let bytes = x.bytes;
     let expression = first_bytes(&bytes, x.count);
     let numbers = l.numbers;
     let used = first_numbers(&numbers, l.used);
-    let ends = l.ends;
-    let stops = first_numbers(&ends, l.count);
-    let d = stored::deliver(used, stops);
+    let d = stored::deliver(used, lists);
     let c = cases::calls(case, l);
     if !packed.same {
         return failed(EXPRESSION);
@@ -315,10 +321,10 @@ fn compare(case: u64) -> Verdict {
     }
     compare_calls(
         used,
-        stops,
+        lists,
         expression,
         d,
-        cases::bookmark(case, l),
+        begin_of(cases::begins(case, l)),
         c,
         cases::breaking(case, c.count),
     )
@@ -336,13 +342,12 @@ fn room_of(case: u64, count: usize) -> usize {
 // Whether the program's work is right about a damaged expression, over a delivery of the case's own lists.
 fn lists_damaged(case: u64, expression: &[u8]) -> bool {
     let l = cases::lists(case);
+    let lists = lists_of(l);
     let numbers = l.numbers;
     let used = first_numbers(&numbers, l.used);
-    let ends = l.ends;
-    let stops = first_numbers(&ends, l.count);
-    let d = stored::deliver(used, stops);
+    let d = stored::deliver(used, lists);
     let bytes = d.bytes;
-    lists(used, stops, expression, first_bytes(&bytes, d.count))
+    lists_all(used, lists, expression, first_bytes(&bytes, d.count))
 }
 
 // One case damaged: mostly to be refused, and by the same number.
@@ -354,8 +359,7 @@ fn compare_damaged(case: u64) -> Verdict {
     let l = made.lists;
     let numbers = l.numbers;
     let used = first_numbers(&numbers, l.used);
-    let ends = l.ends;
-    let stops = first_numbers(&ends, l.count);
+    let begin = made.begin;
     let c = cases::calls(case, cases::lists(case));
     let codes = c.codes;
     let run_codes = first_bytes(&codes, c.count);
@@ -366,9 +370,9 @@ fn compare_damaged(case: u64) -> Verdict {
     }
     run_both(
         used,
-        stops,
+        lists_of(l),
         expression,
-        made.bookmark,
+        begin_of(begin),
         run_codes,
         run_numbers,
         room_of(case, c.count),

@@ -3,6 +3,7 @@ use crate::rows::same_numbers;
 use cases::Bytes;
 use cases::first_bytes;
 use cases::first_numbers;
+use evaluator::Lists;
 
 // An expression packed; `same` where it is accepted, is packed as the generator packs it, and reads back.
 pub struct Packed {
@@ -10,11 +11,12 @@ pub struct Packed {
     pub expression: Bytes,
 }
 
-pub fn pack(row: &[u8], lists: usize) -> Packed {
+pub fn pack(row: &[u8], lists: Lists) -> Packed {
     let mut bytes = [0u8; 64];
-    let written = forms::pack_expression(row, lists, &mut bytes);
+    let count = lists.count;
+    let written = forms::pack_expression(row, count, &mut bytes);
     let mut back = [0u8; 48];
-    let read = forms::unpack_expression(first_bytes(&bytes, written.count), lists, &mut back);
+    let read = forms::unpack_expression(first_bytes(&bytes, written.count), count, &mut back);
     let accepted = written.number == 0 && read.number == 0;
     let other = cases::packed(row);
     let other_bytes = other.bytes;
@@ -39,8 +41,10 @@ pub struct Delivery {
     pub count: usize,
 }
 
-pub fn deliver(numbers: &[u32], ends: &[u32]) -> Delivery {
+pub fn deliver(numbers: &[u32], lists: Lists) -> Delivery {
     let mut bytes = [0u8; 4096];
+    let all = lists.ends;
+    let ends = first_numbers(&all, lists.count);
     let written = encode::encode_delivery(numbers, ends, &mut bytes);
     let mut row = [0u32; 512];
     let mut stops = [0u32; 32];

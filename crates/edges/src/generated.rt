@@ -61,7 +61,8 @@ fn show(case: u64, damaged: bool, differs: u32) {
     text::put(b", packed");
     text::bytes(first_bytes(&bytes, x.count));
     text::put(b", bookmark ");
-    text::number(made.bookmark);
+    let begin = made.begin;
+    text::number(begin.bookmark);
     let c = cases::calls(case, cases::lists(case));
     show_calls(c);
     text::put(b", broken off before call ");

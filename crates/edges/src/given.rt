@@ -3,6 +3,7 @@ use crate::marks;
 use crate::words;
 use crate::words::Form;
 use crate::words::Reading;
+use evaluator::Lists;
 
 // Ends a list in a row of lists: 1, 5, END, END is a list of two numbers and an empty one.
 pub const END: u64 = 4294967296;
@@ -66,6 +67,21 @@ pub fn ends(lists: &[u64]) -> Row32 {
     }
 }
 
+// How the lists lie in their numbers.
+pub fn laid(lists: &[u64]) -> Lists {
+    let given = ends(lists);
+    let row = given.row;
+    evaluator::laid(marks::front_32(&row, given.count))
+}
+
+// So many lists, of which only their number counts.
+pub fn counted(lists: usize) -> Lists {
+    Lists {
+        ends: [0; 80],
+        count: lists,
+    }
+}
+
 // The codes of calls, and their numbers. A call stands in one element: its code times 4294967296, and its number.
 pub fn codes(calls: &[u64]) -> Row8 {
     let mut row = [0u8; 80];
@@ -92,15 +108,14 @@ pub fn arguments(calls: &[u64]) -> Row32 {
 }
 
 // Whether an expression in row form reads over such lists.
-pub fn reads(nodes: &[u8], lists: &[u64]) -> bool {
-    let over = ends(lists);
-    packed(nodes, over.count).count != 0
+pub fn reads(nodes: &[u8], lists: Lists) -> bool {
+    packed(nodes, lists).count != 0
 }
 
 // An expression in row form, packed; nothing where it does not read.
-pub fn packed(nodes: &[u8], lists: usize) -> Row8 {
+pub fn packed(nodes: &[u8], lists: Lists) -> Row8 {
     let mut row = [0u8; 80];
-    let written = forms::pack_expression(nodes, lists, &mut row);
+    let written = forms::pack_expression(nodes, lists.count, &mut row);
     Row8 {
         row,
         count: written.count,

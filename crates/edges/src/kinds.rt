@@ -10,35 +10,69 @@ use crate::stored;
 use crate::words;
 use crate::words::Form;
 use crate::words::Numeral;
+use evaluator::Begin;
+use evaluator::Lists;
 
-// A kind has its number of fields, with the name and the kind itself.
+// How many fields a kind of line needs, with the name and the kind itself, and how many it knows. Those that it does not need may be
+// missing from the end of a line on; the default of each is said where it is read, by `words::one_or`.
+struct Bounds {
+    least: usize,
+    most: usize,
+}
+
+fn from(least: usize, most: usize) -> Bounds {
+    Bounds { least, most }
+}
+
+fn fields(kind: &[u8]) -> Bounds {
+    if check::same(kind, b"run") {
+        return from(6, 6);
+    }
+    if check::same(kind, b"rows") {
+        return from(8, 9);
+    }
+    if check::same(kind, b"test") {
+        return from(4, 4);
+    }
+    if check::same(kind, b"part") {
+        return from(5, 5);
+    }
+    // every other kind ends with a room
+    from(4, 5)
+}
+
+// A line that lacks a field, or has one that its kind does not know, does not read.
 pub fn case(line: &[u8]) -> Line {
     let kind = words::field(line, 1);
-    let fields = words::field_count(line);
-    if fields == 6 && check::same(kind, b"run") {
+    let has = words::field_count(line);
+    let known = fields(kind);
+    if has < known.least || known.most < has {
+        return Line::Unread;
+    }
+    if check::same(kind, b"run") {
         return run(line);
     }
-    if lends_lists(kind, fields) {
+    if lends_lists(kind) {
         return of_lists(line, kind);
     }
-    if fields == 5 {
-        return of_bytes(line, kind);
-    }
-    Line::Unread
+    of_bytes(line, kind)
 }
 
 // Whether it is a kind whose fields begin with numbers and ends.
-fn lends_lists(kind: &[u8], fields: usize) -> bool {
-    match fields {
-        4 => check::same(kind, b"test"),
-        5 => check::same(kind, b"encode") || check::same(kind, b"part"),
-        9 => check::same(kind, b"rows"),
-        _ => false,
-    }
+fn lends_lists(kind: &[u8]) -> bool {
+    check::same(kind, b"test")
+        || check::same(kind, b"encode")
+        || check::same(kind, b"part")
+        || check::same(kind, b"rows")
 }
 
 fn size(n: Numeral) -> usize {
     n.value as usize
+}
+
+// Field k, a room of at most so many places: of so many where it is missing.
+fn room(line: &[u8], k: usize, most: u64) -> Numeral {
+    words::one_or(line, k, most, most)
 }
 
 // name | run | lists | nodes | bookmark | calls, where the nodes read: only `rows` has an expression that is refused
@@ -55,14 +89,20 @@ fn run(line: &[u8]) -> Line {
     let call_row = calls.row;
     let list_front = marks::front_64(&list_row, lists.count);
     let node_front = marks::front_8(&node_row, nodes.count);
-    if !given::reads(node_front, list_front) {
+    let laid = given::laid(list_front);
+    if !given::reads(node_front, laid) {
         return Line::Unread;
     }
+    let numbers = given::numbers(list_front);
+    let number_row = numbers.row;
     runs::run_from(
         words::field(line, 0),
-        list_front,
+        marks::front_32(&number_row, numbers.count),
+        laid,
         node_front,
-        bookmark.value,
+        Begin {
+            bookmark: bookmark.value,
+        },
         marks::front_64(&call_row, calls.count),
     )
 }
@@ -74,46 +114,51 @@ fn of_lists(line: &[u8], kind: &[u8]) -> Line {
         return Line::Unread;
     }
     let end_row = ends.row;
-    let end_front = marks::front_32(&end_row, ends.count);
+    let laid = evaluator::laid(marks::front_32(&end_row, ends.count));
     if check::same(words::field(line, 2), b"ramp") {
         let row = long::ramp();
-        return lent_lists(line, kind, &row, end_front);
+        return lent_lists(line, kind, &row, laid);
     }
     let numbers = given::whole(line, 2);
     if !numbers.good {
         return Line::Unread;
     }
     let row = numbers.row;
-    lent_lists(line, kind, marks::front_32(&row, numbers.count), end_front)
+    lent_lists(line, kind, marks::front_32(&row, numbers.count), laid)
 }
 
-// test | .., rows | .., part | .. | list number, encode | .. | room
-fn lent_lists(line: &[u8], kind: &[u8], numbers: &[u32], ends: &[u32]) -> Line {
+// test | .., rows | .., part | .. | list number, encode | .. [| room]
+fn lent_lists(line: &[u8], kind: &[u8], numbers: &[u32], lists: Lists) -> Line {
     let name = words::field(line, 0);
     if check::same(kind, b"test") {
-        stored::test(name, numbers, ends);
+        stored::test(name, numbers, lists);
         return Line::Run;
     }
     if check::same(kind, b"rows") {
-        return rows(line, numbers, ends);
-    }
-    let last = words::one(line, 4, words::TOP_64);
-    if !last.good {
-        return Line::Unread;
+        return rows(line, numbers, lists);
     }
     if check::same(kind, b"part") {
-        stored::part(name, numbers, ends, size(last));
-        return Line::Run;
+        return part(line, numbers, lists);
     }
-    if 64 < last.value {
+    let room = room(line, 4, 64);
+    if !room.good {
         return Line::Unread;
     }
-    stored::encode(name, numbers, ends, size(last));
+    stored::encode(name, numbers, lists, size(room));
     Line::Run
 }
 
-// rows | numbers | ends | packed | bookmark | codes | arguments | room
-fn rows(line: &[u8], numbers: &[u32], ends: &[u32]) -> Line {
+fn part(line: &[u8], numbers: &[u32], lists: Lists) -> Line {
+    let k = words::one(line, 4, words::TOP_64);
+    if !k.good {
+        return Line::Unread;
+    }
+    stored::part(words::field(line, 0), numbers, lists, size(k));
+    Line::Run
+}
+
+// rows | numbers | ends | packed | bookmark | codes | arguments [| room]
+fn rows(line: &[u8], numbers: &[u32], lists: Lists) -> Line {
     let packed = given::bytes(line, 4);
     let bookmark = words::one(line, 5, words::TOP_64);
     if !packed.good || !bookmark.good {
@@ -121,13 +166,16 @@ fn rows(line: &[u8], numbers: &[u32], ends: &[u32]) -> Line {
     }
     let row = packed.row;
     let front = marks::front_8(&row, packed.count);
-    rows_of_calls(line, numbers, ends, front, bookmark.value)
+    let begin = Begin {
+        bookmark: bookmark.value,
+    };
+    rows_of_calls(line, numbers, lists, front, begin)
 }
 
-fn rows_of_calls(line: &[u8], numbers: &[u32], ends: &[u32], packed: &[u8], bookmark: u64) -> Line {
+fn rows_of_calls(line: &[u8], numbers: &[u32], lists: Lists, packed: &[u8], begin: Begin) -> Line {
     let codes = given::nodes(line, 6);
     let arguments = given::whole(line, 7);
-    let room = words::one(line, 8, 64);
+    let room = room(line, 8, 64);
     if !codes.good || !arguments.good || !room.good {
         return Line::Unread;
     }
@@ -136,9 +184,9 @@ fn rows_of_calls(line: &[u8], numbers: &[u32], ends: &[u32], packed: &[u8], book
     runs::run_rows(
         words::field(line, 0),
         numbers,
-        ends,
+        lists,
         packed,
-        bookmark,
+        begin,
         marks::front_8(&code_row, codes.count),
         marks::front_32(&argument_row, arguments.count),
         size(room),
@@ -153,11 +201,19 @@ fn bytes_of(line: &[u8], kind: &[u8]) -> Row8 {
     given::bytes(line, 2)
 }
 
-// name | kind | bytes | a number | room
+fn most_room(kind: &[u8]) -> u64 {
+    if check::same(kind, b"members") {
+        4096
+    } else {
+        64
+    }
+}
+
+// name | kind | bytes | a number [| room]
 fn of_bytes(line: &[u8], kind: &[u8]) -> Line {
     let bytes = bytes_of(line, kind);
     let n = words::one(line, 3, words::TOP_64);
-    let room = words::one(line, 4, 4096);
+    let room = room(line, 4, most_room(kind));
     if !bytes.good || !n.good || !room.good {
         return Line::Unread;
     }
@@ -171,21 +227,18 @@ fn of_bytes(line: &[u8], kind: &[u8]) -> Line {
     )
 }
 
-// members | input | zero bytes behind it | room, unpack and pack | .. | number of lists | room, decode | .. | room | room
+// members | input | zero bytes behind it [| room], unpack and pack | .. | number of lists [| room], decode | .. | room [| room]
 fn lent_bytes(line: &[u8], kind: &[u8], bytes: &[u8], n: usize, room: usize) -> Line {
     let name = words::field(line, 0);
     if check::same(kind, b"members") {
         return programs::list(name, bytes, n, room);
     }
-    if 64 < room {
-        return Line::Unread;
-    }
     if check::same(kind, b"unpack") {
-        stored::unpack(name, bytes, n, room);
+        stored::unpack(name, bytes, given::counted(n), room);
         return Line::Run;
     }
     if check::same(kind, b"pack") {
-        stored::pack(name, bytes, n, room);
+        stored::pack(name, bytes, given::counted(n), room);
         return Line::Run;
     }
     if check::same(kind, b"decode") && n <= 64 {

@@ -6,101 +6,98 @@ use crate::remarks::Line;
 use crate::text;
 use compare::all_64;
 use compare::evaluated;
+use compare::lent;
+use evaluator::Begin;
+use evaluator::Lists;
 use model::RunResult;
 
 // A run of lists, an expression in row form and calls.
-pub fn run_from(name: &[u8], lists: &[u64], nodes: &[u8], bookmark: u64, calls: &[u64]) -> Line {
-    let given_numbers = given::numbers(lists);
-    let number_row = given_numbers.row;
-    let given_ends = given::ends(lists);
-    let end_row = given_ends.row;
-    let numbers = marks::front_32(&number_row, given_numbers.count);
-    let ends = marks::front_32(&end_row, given_ends.count);
+pub fn run_from(
+    name: &[u8],
+    numbers: &[u32],
+    lists: Lists,
+    nodes: &[u8],
+    begin: Begin,
+    calls: &[u64],
+) -> Line {
     text::put(name);
     text::put(b",");
-    text::lists(numbers, ends);
-    if bookmark != 0 {
-        text::with(b", bookmark ", bookmark);
+    text::lists(numbers, lists);
+    if begin.bookmark != 0 {
+        text::with(b", bookmark ", begin.bookmark);
     }
-    of_calls(numbers, ends, nodes, bookmark, calls)
+    of_calls(numbers, lists, nodes, begin, calls)
 }
 
-fn of_calls(numbers: &[u32], ends: &[u32], nodes: &[u8], bookmark: u64, calls: &[u64]) -> Line {
+fn of_calls(numbers: &[u32], lists: Lists, nodes: &[u8], begin: Begin, calls: &[u64]) -> Line {
     let given_codes = given::codes(calls);
     let code_row = given_codes.row;
     let given_arguments = given::arguments(calls);
     let argument_row = given_arguments.row;
-    let given_packed = given::packed(nodes, ends.len());
+    let given_packed = given::packed(nodes, lists);
     let packed_row = given_packed.row;
     let codes = marks::front_8(&code_row, given_codes.count);
     let arguments = marks::front_32(&argument_row, given_arguments.count);
     let packed = marks::front_8(&packed_row, given_packed.count);
-    outcome(numbers, ends, packed, bookmark, codes, arguments, 64)
+    outcome(numbers, lists, packed, begin, codes, arguments, 64)
 }
 
 // A run of the rows themselves, with a reply row of so many elements, at most 64.
 pub fn run_rows(
     name: &[u8],
     numbers: &[u32],
-    ends: &[u32],
+    lists: Lists,
     packed: &[u8],
-    bookmark: u64,
+    begin: Begin,
     codes: &[u8],
     arguments: &[u32],
     room: usize,
 ) -> Line {
     text::put(name);
     text::put(b", run");
-    text::lent(numbers, ends);
+    text::lent(numbers, lists);
     text::put(b", packed");
     text::bytes(packed);
-    text::with(b", bookmark ", bookmark);
+    text::with(b", bookmark ", begin.bookmark);
     text::put(b", codes");
     text::nodes(codes);
     text::put(b", arguments");
     text::numbers(arguments);
     text::with(b", replies ", text::wide(room));
-    outcome(numbers, ends, packed, bookmark, codes, arguments, room)
+    outcome(numbers, lists, packed, begin, codes, arguments, room)
 }
 
 // The run, by the engine and by the evaluator, and the rest of its line.
 fn outcome(
     numbers: &[u32],
-    ends: &[u32],
+    lists: Lists,
     packed: &[u8],
-    bookmark: u64,
+    begin: Begin,
     codes: &[u8],
     arguments: &[u32],
     room: usize,
 ) -> Line {
     let mut replies = [text::MARK_64; 64];
     let n = room % 65;
-    let ran = engine::run(
+    let ran = lent::run(
         numbers,
-        ends,
+        lists,
         packed,
-        bookmark,
+        begin,
         codes,
         arguments,
         &mut replies[0..n],
     );
-    came_back(
-        ran,
-        node_count(packed, ends.len()),
-        codes,
-        arguments,
-        &replies,
-    );
+    came_back(ran, node_count(packed, lists), codes, arguments, &replies);
     remarks::end(evaluated::run(
         numbers,
-        ends,
+        lists,
         packed,
-        bookmark,
+        begin,
         codes,
         arguments,
         n,
-        ran.number,
-        ran.bookmark,
+        ran,
         all_64(&replies),
     ))
 }
@@ -123,9 +120,9 @@ fn changed(replies: &[u64; 64], from: usize) {
 }
 
 // How many nodes a packed expression has.
-fn node_count(packed: &[u8], lists: usize) -> usize {
+fn node_count(packed: &[u8], lists: Lists) -> usize {
     let mut row = [0u8; 48];
-    forms::unpack_expression(packed, lists, &mut row).count
+    forms::unpack_expression(packed, lists.count, &mut row).count
 }
 
 fn other_parts_zero(ran: RunResult) -> bool {

@@ -1,13 +1,14 @@
 // The stored forms and the lent lists, a call for each case: what is handed in and what comes back.
 use crate::marks;
 use crate::text;
+use evaluator::Lists;
 use model::DecodeResult;
 
 // A packed expression to its row form, in a row of so many nodes, at most 64.
-pub fn unpack(name: &[u8], bytes: &[u8], lists: usize, room: usize) {
+pub fn unpack(name: &[u8], bytes: &[u8], lists: Lists, room: usize) {
     let mut row = [text::MARK; 80];
     let n = room % 65;
-    let w = forms::unpack_expression(bytes, lists, &mut row[0..n]);
+    let w = forms::unpack_expression(bytes, lists.count, &mut row[0..n]);
     text::put(name);
     text::put(b", unpack");
     text::bytes(bytes);
@@ -26,10 +27,10 @@ fn written_nodes(number: u32, count: usize, row: &[u8; 80]) {
 }
 
 // A row to its packed form, in so many bytes, at most 64.
-pub fn pack(name: &[u8], nodes: &[u8], lists: usize, room: usize) {
+pub fn pack(name: &[u8], nodes: &[u8], lists: Lists, room: usize) {
     let mut row = [text::MARK; 80];
     let n = room % 65;
-    let w = forms::pack_expression(nodes, lists, &mut row[0..n]);
+    let w = forms::pack_expression(nodes, lists.count, &mut row[0..n]);
     text::put(name);
     text::put(b", pack");
     text::nodes(nodes);
@@ -38,20 +39,21 @@ pub fn pack(name: &[u8], nodes: &[u8], lists: usize, room: usize) {
 }
 
 // Lists as a delivery, in so many bytes, at most 64.
-pub fn encode(name: &[u8], numbers: &[u32], ends: &[u32], room: usize) {
+pub fn encode(name: &[u8], numbers: &[u32], laid: Lists, room: usize) {
     let mut row = [text::MARK; 80];
     let n = room % 65;
-    let w = encode::encode_delivery(numbers, ends, &mut row[0..n]);
+    let ends = laid.ends;
+    let w = encode::encode_delivery(numbers, marks::front_32(&ends, laid.count), &mut row[0..n]);
     text::put(name);
     text::put(b", encode");
-    text::lent(numbers, ends);
+    text::lent(numbers, laid);
     into(room);
     written_bytes(w.number, w.count, &row);
 }
 
-fn with_lists(lists: usize, room: usize) {
+fn with_lists(lists: Lists, room: usize) {
     text::put(b", ");
-    text::counted(lists, b"list");
+    text::counted(lists.count, b"list");
     into(room);
 }
 
@@ -104,7 +106,7 @@ fn delivered(d: DecodeResult, numbers: &[u32; 80], ends: &[u32; 80]) {
         text::put(b", ");
         text::counted(d.numbers, b"number");
         let row = marks::front_32(numbers, d.numbers);
-        text::lists(row, marks::front_32(ends, d.lists));
+        text::lists(row, evaluator::laid(marks::front_32(ends, d.lists)));
     } else {
         text::refused(d.number, d.lists == 0 && d.numbers == 0);
     }
@@ -116,11 +118,12 @@ fn delivered(d: DecodeResult, numbers: &[u32; 80], ends: &[u32; 80]) {
 }
 
 // The tests of lent lists.
-pub fn test(name: &[u8], numbers: &[u32], ends: &[u32]) {
-    let number = lists::test_lists(numbers, ends);
+pub fn test(name: &[u8], numbers: &[u32], laid: Lists) {
+    let ends = laid.ends;
+    let number = lists::test_lists(numbers, marks::front_32(&ends, laid.count));
     text::put(name);
     text::put(b", test");
-    text::lent(numbers, ends);
+    text::lent(numbers, laid);
     text::put(b": ");
     if number == 0 {
         text::put(b"accepted");
@@ -131,13 +134,15 @@ pub fn test(name: &[u8], numbers: &[u32], ends: &[u32]) {
 }
 
 // The part of one list, and where it stands.
-pub fn part(name: &[u8], numbers: &[u32], ends: &[u32], k: usize) {
+pub fn part(name: &[u8], numbers: &[u32], laid: Lists, k: usize) {
+    let row = laid.ends;
+    let ends = marks::front_32(&row, laid.count);
     let span = lists::list_span(numbers, ends, k);
     let part = lists::list_part(numbers, ends, k);
     text::put(name);
     text::with(b", list ", text::wide(k));
     text::put(b" of");
-    text::lent(numbers, ends);
+    text::lent(numbers, laid);
     text::put(b": ");
     text::counted(part.len(), b"number");
     text::numbers(part);

@@ -1,4 +1,6 @@
 // Words and numbers on standard output, a line for each case.
+use cases::first_numbers;
+use evaluator::Lists;
 
 // What every lent element holds before a call, by its width. No case hands these numbers in.
 pub const MARK: u8 = 170;
@@ -129,23 +131,25 @@ fn digit(x: u8) -> u8 {
 }
 
 // Lists as they are lent.
-pub fn lent(row: &[u32], ends: &[u32]) {
+pub fn lent(row: &[u32], laid: Lists) {
+    let ends = laid.ends;
     put(b" numbers");
     numbers(row);
     put(b", ends");
-    numbers(ends);
+    numbers(first_numbers(&ends, laid.count));
 }
 
 // Lists by their numbers, each in braces.
-pub fn lists(row: &[u32], ends: &[u32]) {
-    for k in 0..ends.len() {
-        list(k, lists::list_part(row, ends, k));
+pub fn lists(row: &[u32], laid: Lists) {
+    for k in 0..laid.count {
+        list(row, laid, k);
     }
 }
 
-fn list(k: usize, row: &[u32]) {
+fn list(row: &[u32], laid: Lists, k: usize) {
+    let ends = laid.ends;
     with(b" L", wide(k));
     put(b" {");
-    numbers(row);
+    numbers(lists::list_part(row, first_numbers(&ends, laid.count), k));
     put(b" }");
 }

@@ -309,3 +309,12 @@ pub fn read(line: &[u8], k: usize, form: Form) -> Reading {
 pub fn one(line: &[u8], k: usize, most: u64) -> Numeral {
     decimal(field(line, k), most)
 }
+
+// Field k, one number, which may be missing: a line that ends before it has the default. A field that is there is read, and an
+// empty one is no number.
+pub fn one_or(line: &[u8], k: usize, most: u64, default: u64) -> Numeral {
+    if field_count(line) <= k {
+        return good(default);
+    }
+    one(line, k, most)
+}

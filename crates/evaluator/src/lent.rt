@@ -1,5 +1,35 @@
 // The lent lists: where each one begins and ends, and what the paper refuses of them.
 
+// How the lent numbers lie in lists: how many lists there are, and where each ends. Whatever else is said of lists belongs here; the
+// numbers stay a slice beside it, since a struct is handed on by value. There is room for more ends than are accepted, so that these
+// can be handed in.
+pub struct Lists {
+    pub ends: [u32; 80],
+    pub count: usize,
+}
+
+// Lists with these ends. The ends behind the 80th are left out; so many lists are refused for their count.
+pub fn laid(ends: &[u32]) -> Lists {
+    let mut row = [0u32; 80];
+    for k in 0..80usize {
+        if k < ends.len() {
+            row[k] = ends[k];
+        }
+    }
+    Lists {
+        ends: row,
+        count: ends.len(),
+    }
+}
+
+// The ends of so many lists, or all where there are fewer.
+pub fn stops(ends: &[u32], count: usize) -> &[u32] {
+    if count <= ends.len() {
+        return &ends[0..count];
+    }
+    ends
+}
+
 // A place in the numbers.
 fn place(x: u32) -> usize {
     x as usize
@@ -28,7 +58,9 @@ pub fn size(ends: &[u32], k: usize) -> usize {
 }
 
 // Whether list k's end neither falls nor passes the row, and the list is not over 65,535.
-fn is_sized(ends: &[u32], k: usize, row: usize) -> bool {
+fn is_sized(lists: Lists, k: usize, row: usize) -> bool {
+    let all = lists.ends;
+    let ends = stops(&all, lists.count);
     let to = end(ends, k);
     if to < start(ends, k) {
         return false;
@@ -39,9 +71,9 @@ fn is_sized(ends: &[u32], k: usize, row: usize) -> bool {
     size(ends, k) <= 65535
 }
 
-fn are_sized(numbers: &[u32], ends: &[u32]) -> bool {
-    for k in 0..ends.len() {
-        if !is_sized(ends, k, numbers.len()) {
+fn are_sized(numbers: &[u32], lists: Lists) -> bool {
+    for k in 0..lists.count {
+        if !is_sized(lists, k, numbers.len()) {
             return false;
         }
     }
@@ -78,21 +110,26 @@ fn are_ascending(numbers: &[u32], ends: &[u32]) -> bool {
 }
 
 // What is refused of the ends: 7 or 10, else 0.
-pub fn ends_refused(numbers: &[u32], ends: &[u32]) -> u32 {
-    if ends.len() == 0 {
+pub fn ends_refused(numbers: &[u32], lists: Lists) -> u32 {
+    if lists.count == 0 {
         return 7;
     }
-    if 32 < ends.len() {
+    if 32 < lists.count {
         return 7;
     }
-    if are_sized(numbers, ends) { 0 } else { 10 }
+    if are_sized(numbers, lists) { 0 } else { 10 }
 }
 
 // What is refused of the lists: 7, 10 or 11, each over all lists before the next, else 0.
-pub fn refused(numbers: &[u32], ends: &[u32]) -> u32 {
-    let number = ends_refused(numbers, ends);
+pub fn refused(numbers: &[u32], lists: Lists) -> u32 {
+    let number = ends_refused(numbers, lists);
     if number != 0 {
         return number;
     }
-    if are_ascending(numbers, ends) { 0 } else { 11 }
+    let ends = lists.ends;
+    if are_ascending(numbers, stops(&ends, lists.count)) {
+        0
+    } else {
+        11
+    }
 }

@@ -4,6 +4,9 @@ mod lent;
 mod member;
 mod tokens;
 
+pub use lent::Lists;
+pub use lent::laid;
+use lent::stops;
 use member::is_member;
 use member::least;
 
@@ -18,74 +21,75 @@ const FINISHED: u64 = 4294967298;
 
 const UNKNOWN: u64 = 4294967299;
 
-// What a run hands back: the number of a refusal or 0, and the last bookmark (0 with a refusal).
-pub struct Answered {
-    pub number: u32,
+// Where a run begins, and where each of its calls leaves it: the floor, which is the bookmark of the next run.
+pub struct Begin {
     pub bookmark: u64,
 }
 
-// What one call comes to: the reply as it stands in the row, and the floor that the call leaves.
+// What a run hands back: the number of a refusal or 0, and where the next run begins (all 0 with a refusal).
+pub struct Answered {
+    pub number: u32,
+    pub last: Begin,
+}
+
+// What one call comes to: the reply as it stands in the row, and where the next call begins.
 struct Turn {
     reply: u64,
-    floor: u64,
+    next: Begin,
 }
 
 fn wide(x: u32) -> u64 {
     x as u64
 }
 
-fn raised(floor: u64, to: u64) -> u64 {
-    if floor < to { to } else { floor }
+// With the floor at a number, or left where it is above it.
+fn raised(begin: Begin, to: u64) -> Begin {
+    let mut next = begin;
+    if begin.bookmark < to {
+        next.bookmark = to;
+    }
+    next
 }
 
 // Next, from a floor that is raised already.
-fn draw(numbers: &[u32], ends: &[u32], tokens: &[u8], floor: u64) -> Turn {
-    let found = least(numbers, ends, tokens, floor);
+fn draw(numbers: &[u32], ends: &[u32], tokens: &[u8], begin: Begin) -> Turn {
+    let found = least(numbers, ends, tokens, begin.bookmark);
     if found < TOP {
         Turn {
             reply: found,
-            floor: found + 1,
+            next: raised(begin, found + 1),
         }
     } else {
         Turn {
             reply: FINISHED,
-            floor: TOP,
+            next: raised(begin, TOP),
         }
     }
 }
 
 // Check: a number below the floor is no member any more.
-fn check(numbers: &[u32], ends: &[u32], tokens: &[u8], floor: u64, d: u64) -> Turn {
-    let next = raised(floor, d);
-    if d < floor {
-        return Turn {
-            reply: NO,
-            floor: next,
-        };
+fn check(numbers: &[u32], ends: &[u32], tokens: &[u8], begin: Begin, d: u64) -> Turn {
+    let next = raised(begin, d);
+    if d < begin.bookmark {
+        return Turn { reply: NO, next };
     }
     if is_member(numbers, ends, tokens, d) {
-        Turn {
-            reply: YES,
-            floor: next,
-        }
+        Turn { reply: YES, next }
     } else {
-        Turn {
-            reply: NO,
-            floor: next,
-        }
+        Turn { reply: NO, next }
     }
 }
 
 // One call of the plain machine.
-fn called(numbers: &[u32], ends: &[u32], tokens: &[u8], floor: u64, code: u8, d: u64) -> Turn {
+fn called(numbers: &[u32], ends: &[u32], tokens: &[u8], begin: Begin, code: u8, d: u64) -> Turn {
     match code {
-        0 => draw(numbers, ends, tokens, floor),
-        1 => draw(numbers, ends, tokens, raised(floor, d)),
-        2 => draw(numbers, ends, tokens, raised(floor, d % TOP + 1)),
-        3 => check(numbers, ends, tokens, floor, d),
+        0 => draw(numbers, ends, tokens, begin),
+        1 => draw(numbers, ends, tokens, raised(begin, d)),
+        2 => draw(numbers, ends, tokens, raised(begin, d % TOP + 1)),
+        3 => check(numbers, ends, tokens, begin, d),
         _ => Turn {
             reply: UNKNOWN,
-            floor,
+            next: begin,
         },
     }
 }
@@ -105,35 +109,35 @@ fn put(replies: &mut [u64], i: usize, reply: u64) {
     }
 }
 
-// All calls in order, each from the floor that the one before it left; hands back the last floor.
+// All calls in order, each from where the one before it left off; hands back where the last did.
 fn run(
     numbers: &[u32],
     ends: &[u32],
     tokens: &[u8],
-    bookmark: u64,
+    begin: Begin,
     codes: &[u8],
     arguments: &[u32],
     replies: &mut [u64],
-) -> u64 {
-    let mut floor = bookmark;
+) -> Begin {
+    let mut last = begin;
     for i in 0..codes.len() {
         let after = called(
             numbers,
             ends,
             tokens,
-            floor,
+            last,
             codes[i],
             argument(arguments, i),
         );
         put(replies, i, after.reply);
-        floor = after.floor;
+        last = after.next;
     }
-    floor
+    last
 }
 
-// What is refused of the bookmark and of the rows' lengths: 12 or 13, else 0.
-fn call_refused(bookmark: u64, codes: usize, arguments: usize, replies: usize) -> u32 {
-    if TOP < bookmark {
+// What is refused of where a run begins and of the rows' lengths: 12 or 13, else 0.
+fn call_refused(begin: Begin, codes: usize, arguments: usize, replies: usize) -> u32 {
+    if TOP < begin.bookmark {
         return 12;
     }
     if codes != arguments {
@@ -145,7 +149,7 @@ fn call_refused(bookmark: u64, codes: usize, arguments: usize, replies: usize) -
 fn refusal(number: u32) -> Answered {
     Answered {
         number,
-        bookmark: 0,
+        last: Begin { bookmark: 0 },
     }
 }
 
@@ -153,47 +157,44 @@ fn refusal(number: u32) -> Answered {
 // replies are left alone, and with a refusal the whole row.
 pub fn answer(
     numbers: &[u32],
-    ends: &[u32],
+    lists: Lists,
     packed: &[u8],
-    bookmark: u64,
+    begin: Begin,
     codes: &[u8],
     arguments: &[u32],
     replies: &mut [u64],
 ) -> Answered {
-    let number = lent::refused(numbers, ends);
+    let number = lent::refused(numbers, lists);
     if number != 0 {
         return refusal(number);
     }
-    let read = tokens::tokens_of(packed, ends.len());
+    let read = tokens::tokens_of(packed, lists);
     if read.number != 0 {
         return refusal(read.number);
     }
-    let number = call_refused(bookmark, codes.len(), arguments.len(), replies.len());
+    let number = call_refused(begin, codes.len(), arguments.len(), replies.len());
     if number != 0 {
         return refusal(number);
     }
-    // at most 48
+    let ends = lists.ends;
     let row = read.tokens;
-    let count = read.count % 49;
     let last = run(
         numbers,
-        ends,
-        &row[..count],
-        bookmark,
+        stops(&ends, lists.count),
+        tokens::first(&row, read.count),
+        begin,
         codes,
         arguments,
         replies,
     );
-    Answered {
-        number: 0,
-        bookmark: last,
-    }
+    Answered { number: 0, last }
 }
 
 // The length of the list at a token, 0 at an operator.
-fn length(ends: &[u32], token: u8) -> u32 {
+fn length(lists: Lists, token: u8) -> u32 {
+    let ends = lists.ends;
     if tokens::kind(token) == 0 {
-        (lent::size(ends, place(tokens::value(token))) % 65536) as u32
+        (lent::size(stops(&ends, lists.count), place(tokens::value(token))) % 65536) as u32
     } else {
         0
     }
@@ -205,16 +206,16 @@ fn place(x: u8) -> usize {
 
 // Of each node in expression order the length of its list, 0 at an operator or where there is no node: what its
 // reader's place can reach. All 0 where the ends (7, 10) or the expression (1 to 5) do not read.
-pub fn lengths(numbers: &[u32], ends: &[u32], packed: &[u8]) -> [u32; 48] {
+pub fn lengths(numbers: &[u32], lists: Lists, packed: &[u8]) -> [u32; 48] {
     let mut found = [0u32; 48];
-    if lent::ends_refused(numbers, ends) != 0 {
+    if lent::ends_refused(numbers, lists) != 0 {
         return found;
     }
-    let read = tokens::tokens_of(packed, ends.len());
+    let read = tokens::tokens_of(packed, lists);
     let row = read.tokens;
     let count = read.count % 49;
     for i in 0..count {
-        found[i] = length(ends, row[i]);
+        found[i] = length(lists, row[i]);
     }
     found
 }

@@ -1,5 +1,6 @@
 // The packed expression as a row of tokens, one byte a node, in expression order: kind times 32, plus the list number
 // (kind 0) or the member count (difference 1, union 2, intersection 3).
+use crate::lent::Lists;
 ghost use Prim.Native.Nat.{_≤_, _<_};
 
 // The tokens read, of which there are count; or the number of the refusal, and then count is 0.
@@ -18,6 +19,14 @@ struct Node {
 
 fn wide(x: u8) -> u64 {
     x as u64
+}
+
+// The first n tokens of a row, or all of a shorter one.
+pub fn first(row: &[u8], n: usize) -> &[u8] {
+    if n <= row.len() {
+        return &row[0..n];
+    }
+    row
 }
 
 pub fn kind(token: u8) -> u8 {
@@ -103,7 +112,7 @@ fn unread(number: u32) -> Node
 }
 
 // The node at a position: 1 if its bits run out, then 4 if there is no such list.
-fn node_at(packed: &[u8], at: usize, lists: usize) -> Node
+fn node_at(packed: &[u8], at: usize, lists: Lists) -> Node
     requires { ⌜ at ≤ 336 ⌝ }
     ensures { λ r. ⌜ r .bits ≤ 7 ⌝ }
 {
@@ -123,7 +132,7 @@ fn node_at(packed: &[u8], at: usize, lists: usize) -> Node
             bits: taken,
         };
     }
-    if lists as u64 <= read {
+    if lists.count as u64 <= read {
         return unread(4);
     }
     Node {
@@ -175,7 +184,7 @@ fn refusal(number: u32) -> Scan {
 
 // The expression's tokens. The next node's depth is one more than the operators that are open; where none is left open
 // behind a node, that node was the last.
-pub fn tokens_of(packed: &[u8], lists: usize) -> Scan {
+pub fn tokens_of(packed: &[u8], lists: Lists) -> Scan {
     let mut tokens = [0u8; 48];
     let mut at: usize = 0;
     let mut opened: usize = 0;

@@ -1,9 +1,14 @@
 //! The iterator over pages.
 
-use super::{lent, packed, FIRST, FOURTH, SECOND, THIRD, TOP};
+use super::{lent, packed, Lists, FIRST, FOURTH, SECOND, THIRD, TOP};
 use crate::{members, Members, Refusal};
 
 const PAGES: [usize; 6] = [0, 1, 2, 3, 1000, usize::MAX];
+
+/// The iterator over lists, from a bookmark on.
+fn drawing<'a>(lists: &'a Lists, packed: &'a [u8], bookmark: u64, page: usize) -> Result<Members<'a>, Refusal> {
+    members(&lists.numbers, &lists.ends, packed, bookmark, page)
+}
 
 /// All that is left, or the first hundred of an iterator that does not end.
 fn rest(members: Members) -> Vec<u32> {
@@ -12,20 +17,20 @@ fn rest(members: Members) -> Vec<u32> {
 
 #[test]
 fn every_page_size_draws_all() {
-    let (numbers, ends) = lent(&[FIRST, SECOND, THIRD, FOURTH]);
+    let lists = lent(&[FIRST, SECOND, THIRD, FOURTH]);
     let union = packed(&[132, 0, 1, 2, 3]);
     for page in PAGES {
-        let drawn = rest(members(&numbers, &ends, &union, 0, page).unwrap());
+        let drawn = rest(drawing(&lists, &union, 0, page).unwrap());
         assert_eq!(drawn, (0..10).collect::<Vec<u32>>(), "page {page}");
     }
 }
 
 #[test]
 fn the_bookmark_follows_what_is_handed_out() {
-    let (numbers, ends) = lent(&[FIRST, FOURTH]);
+    let lists = lent(&[FIRST, FOURTH]);
     let difference = packed(&[64, 0, 1]);
     for page in PAGES {
-        let mut drawn = members(&numbers, &ends, &difference, 3, page).unwrap();
+        let mut drawn = drawing(&lists, &difference, 3, page).unwrap();
         assert_eq!(drawn.bookmark(), 3);
         for member in [5, 6, 8] {
             assert_eq!(drawn.next(), Some(member));
@@ -40,22 +45,22 @@ fn the_bookmark_follows_what_is_handed_out() {
 
 #[test]
 fn a_bookmark_gives_the_rest() {
-    let (numbers, ends) = lent(&[FIRST, SECOND, THIRD, FOURTH]);
+    let lists = lent(&[FIRST, SECOND, THIRD, FOURTH]);
     let union = packed(&[132, 0, 1, 2, 3]);
     for (page, taken) in PAGES.iter().flat_map(|page| (0..=10).map(move |taken| (*page, taken))) {
-        let mut first = members(&numbers, &ends, &union, 0, page).unwrap();
+        let mut first = drawing(&lists, &union, 0, page).unwrap();
         let mut all: Vec<u32> = first.by_ref().take(taken).collect();
-        all.extend(rest(members(&numbers, &ends, &union, first.bookmark(), page).unwrap()));
+        all.extend(rest(drawing(&lists, &union, first.bookmark(), page).unwrap()));
         assert_eq!(all, (0..10).collect::<Vec<u32>>(), "page {page}, taken {taken}");
     }
 }
 
 #[test]
 fn the_greatest_number_ends_it() {
-    let (numbers, ends) = lent(&[&[7, u32::MAX]]);
+    let lists = lent(&[&[7, u32::MAX]]);
     let list = packed(&[0]);
     for page in PAGES {
-        let mut drawn = members(&numbers, &ends, &list, 8, page).unwrap();
+        let mut drawn = drawing(&lists, &list, 8, page).unwrap();
         assert_eq!(drawn.next(), Some(u32::MAX));
         assert_eq!(drawn.bookmark(), TOP);
         assert_eq!(drawn.next(), None);
@@ -64,15 +69,15 @@ fn the_greatest_number_ends_it() {
 
 #[test]
 fn an_empty_set() {
-    let (numbers, ends) = lent(&[&[]]);
+    let lists = lent(&[&[]]);
     let list = packed(&[0]);
-    let mut drawn = members(&numbers, &ends, &list, 0, 2).unwrap();
+    let mut drawn = drawing(&lists, &list, 0, 2).unwrap();
     assert_eq!((drawn.next(), drawn.bookmark()), (None, TOP));
 }
 
 #[test]
 fn bad_input_is_refused_at_once() {
-    let (numbers, ends) = lent(&[FIRST]);
+    let Lists { numbers, ends } = lent(&[FIRST]);
     let list = packed(&[0]);
     assert_eq!(members(&numbers, &[], &list, 0, 2).err(), Some(Refusal::NumberOfLists));
     assert_eq!(members(&numbers, &[99], &list, 0, 2).err(), Some(Refusal::BadEnds));

@@ -13,15 +13,21 @@ const FOURTH: &[u32] = &[0, 1, 2, 3, 7, 9];
 
 const TOP: u64 = 4_294_967_296;
 
+/// Lists as they are lent.
+struct Lists {
+    numbers: Vec<u32>,
+    ends: Vec<u32>,
+}
+
 /// Lists one after the other, and their ends.
-fn lent(lists: &[&[u32]]) -> (Vec<u32>, Vec<u32>) {
+fn lent(lists: &[&[u32]]) -> Lists {
     let mut numbers = Vec::new();
     let mut ends = Vec::new();
     for list in lists {
         numbers.extend_from_slice(list);
         ends.push(numbers.len() as u32);
     }
-    (numbers, ends)
+    Lists { numbers, ends }
 }
 
 /// An expression's row form, packed.
@@ -33,7 +39,7 @@ fn packed(row: &[u8]) -> Vec<u8> {
 
 /// A run over lists and a row form.
 fn ask(lists: &[&[u32]], row: &[u8], bookmark: u64, calls: &[Call]) -> Result<(Vec<Reply>, RunResult), Refusal> {
-    let (numbers, ends) = lent(lists);
+    let Lists { numbers, ends } = lent(lists);
     let codes: Vec<u8> = calls.iter().map(|call| call.code()).collect();
     let arguments: Vec<u32> = calls.iter().map(|call| call.argument()).collect();
     let mut replies = vec![0; calls.len()];

@@ -1,6 +1,6 @@
 //! P1 to P9, and the edges beside them.
 
-use super::{ask, lent, packed, places, FIRST, FOURTH, SECOND, THIRD, TOP};
+use super::{ask, lent, packed, places, Lists, FIRST, FOURTH, SECOND, THIRD, TOP};
 use crate::refusal::every;
 use crate::Call::{AtOrPast, Check, Next, Past};
 use crate::Reply::{Finished, Member, No, Unknown, Yes};
@@ -103,7 +103,7 @@ fn at_or_past_and_past() {
 
 #[test]
 fn an_unknown_code_changes_nothing() {
-    let (numbers, ends) = lent(&[FIRST]);
+    let Lists { numbers, ends } = lent(&[FIRST]);
     let mut replies = [77; 4];
     let result = run(&numbers, &ends, &packed(&[0]), 1, &[4, 0, 255], &[9, 9, 9], &mut replies).unwrap();
     assert_eq!(replies[3], 77);
@@ -122,7 +122,7 @@ fn a_run_of_no_calls() {
 
 #[test]
 fn parts_of_the_lent_numbers_themselves() {
-    let (numbers, ends) = lent(&[FIRST, &[], SECOND]);
+    let Lists { numbers, ends } = lent(&[FIRST, &[], SECOND]);
     let part = list_part(&numbers, &ends, 2);
     assert_eq!(part, SECOND);
     assert_eq!(part.as_ptr(), numbers[FIRST.len()..].as_ptr());

@@ -1,6 +1,6 @@
 //! The paper's small input of every refusal, and what is just accepted.
 
-use super::{ask, lent, packed, FIRST, TOP};
+use super::{ask, lent, packed, Lists, FIRST, TOP};
 use crate::{decode_delivery, encode_delivery, pack_expression, run, unpack_expression, Call, Refusal};
 
 const DEPTH_13: [u8; 9] = [0x84, 0x21, 0x08, 0x42, 0x10, 0x84, 0x21, 0x00, 0x00];
@@ -130,7 +130,7 @@ fn runs() {
     assert_eq!(ask(&[FIRST], &[1], 0, &[]).err(), Some(Refusal::NoSuchList));
     assert_eq!(ask(&[FIRST], &[0], TOP + 1, &[]).err(), Some(Refusal::BadBookmark));
     assert!(ask(&[FIRST], &[0], TOP, &[Call::Next]).is_ok());
-    let (numbers, ends) = lent(&[FIRST]);
+    let Lists { numbers, ends } = lent(&[FIRST]);
     for (codes, arguments, room) in [(1, 0, 9), (0, 1, 9), (2, 2, 1)] {
         let mut replies = vec![77; room];
         let result = run(

@@ -1,6 +1,7 @@
 //! Deliveries read and written, and the part of one list.
 
-use crate::evaluator::{delivery as model, lists};
+use crate::evaluator::delivery as model;
+use crate::evaluator::lists::{self, Lists};
 use crate::ffi;
 use crate::inputs::{delivery, lent, lent_lists, long_list, longest, room, some_lists};
 use crate::random::{cases, seed, Random};
@@ -28,13 +29,12 @@ fn delivery_case(number: u64) -> Delivery {
         random.bytes(count)
     } else if random.one_in(2000) {
         let lists = [some_lists(&mut random), vec![long_list(&mut random)[..65_535].to_vec()]].concat();
-        let (numbers, ends) = lent(&lists);
-        model::encode(&numbers, &ends, usize::MAX).unwrap_or_default()
+        model::encode(&lent(&lists), usize::MAX).unwrap_or_default()
     } else {
         delivery(&mut random)
     };
     let (numbers, ends) = match model::decode(&bytes, usize::MAX, 64) {
-        Ok((numbers, ends)) => (numbers.len(), ends.len()),
+        Ok(lists) => (lists.numbers.len(), lists.ends.len()),
         Err(_) => (random.below(60), random.below(40)),
     };
     // One row at a time is too short, so that the order of the other tests is seen.
@@ -47,10 +47,10 @@ fn delivery_case(number: u64) -> Delivery {
     }
 }
 
-fn compare_delivery(case: &Delivery, expected: &Result<(Vec<u32>, Vec<u32>), u32>) {
-    let none = (vec![], vec![]);
+fn compare_delivery(case: &Delivery, expected: &Result<Lists, u32>) {
+    let none = Lists::default();
     let number = expected.as_ref().err().copied().unwrap_or(0);
-    let (numbers, ends) = expected.as_ref().unwrap_or(&none);
+    let Lists { numbers, ends } = expected.as_ref().unwrap_or(&none);
 
     let (mut numbers_lent, mut ends_lent) = (Lent::new(case.numbers_room), Lent::new(case.ends_room));
     let sent = ffi::decode_delivery(&case.bytes, numbers_lent.row(), ends_lent.row());
@@ -87,12 +87,13 @@ fn decode_delivery() {
         let case = delivery_case(number);
         let expected = model::decode(&case.bytes, case.numbers_room, case.ends_room);
         compare_delivery(&case, &expected);
-        if let Ok((numbers, ends)) = &expected {
+        if let Ok(lists) = &expected {
+            let Lists { numbers, ends } = lists;
             let mut back = vec![0; case.bytes.len()];
             let length = zwailmoor::encode_delivery(numbers, ends, &mut back);
             assert_eq!((length, &back), (Ok(back.len()), &case.bytes), "written back: {case:#?}");
             tally.edge("32 lists", ends.len() == 32);
-            tally.edge("a list of 65,535", longest(ends) == 65_535);
+            tally.edge("a list of 65,535", longest(lists) == 65_535);
             tally.edge(
                 "both rows exact",
                 numbers.len() == case.numbers_room && ends.len() == case.ends_room,
@@ -106,17 +107,16 @@ fn decode_delivery() {
 // The case's number is only printed.
 #[allow(dead_code)]
 #[derive(Debug)]
-struct Lists {
+struct Case {
     number: u64,
-    numbers: Vec<u32>,
-    ends: Vec<u32>,
+    lists: Lists,
     room: usize,
     list: usize,
 }
 
-fn lists_case(salt: u64, number: u64) -> Lists {
+fn lists_case(salt: u64, number: u64) -> Case {
     let mut random = Random::of_case(seed() ^ salt, number);
-    let (numbers, ends) = if random.one_in(2000) {
+    let lists = if random.one_in(2000) {
         let place = random.below(3);
         let mut lists = some_lists(&mut random);
         lists.insert(place.min(lists.len()), long_list(&mut random));
@@ -124,47 +124,48 @@ fn lists_case(salt: u64, number: u64) -> Lists {
     } else {
         lent_lists(&mut random)
     };
-    let needed = model::encode(&numbers, &ends, usize::MAX).map_or(random.below(80), |bytes| bytes.len());
+    let needed = model::encode(&lists, usize::MAX).map_or(random.below(80), |bytes| bytes.len());
     let room = room(&mut random, needed);
     let list = match random.below(12) {
-        0 => ends.len(),
+        0 => lists.ends.len(),
         1 => random.pick(&[31, 32, 33, 1 << 32, usize::MAX]),
-        _ => random.below(ends.len().max(1)),
+        _ => random.below(lists.ends.len().max(1)),
     };
-    Lists {
+    Case {
         number,
-        numbers,
-        ends,
+        lists,
         room,
         list,
     }
 }
 
-fn compare_lists(case: &Lists, expected: &Result<Vec<u8>, u32>) {
+fn compare_lists(case: &Case, expected: &Result<Vec<u8>, u32>) {
+    let Lists { numbers, ends } = &case.lists;
     let (number, written): (u32, &[u8]) = match expected {
         Ok(written) => (0, written),
         Err(number) => (*number, &[]),
     };
     let mut lent = Lent::new(case.room);
-    let sent = ffi::encode_delivery(&case.numbers, &case.ends, lent.row());
+    let sent = ffi::encode_delivery(numbers, ends, lent.row());
     assert_eq!((sent.number, sent.count), (number, written.len()), "{case:#?}");
     lent.assert_holds(written, "the bytes", case);
 
     let mut lent = Lent::new(case.room);
-    let result = zwailmoor::encode_delivery(&case.numbers, &case.ends, lent.row());
+    let result = zwailmoor::encode_delivery(numbers, ends, lent.row());
     let count = if number == 0 { Ok(written.len()) } else { Err(number) };
     assert_eq!(result.map_err(|refusal| refusal.number()), count, "{case:#?}");
     lent.assert_holds(written, "the bytes by the wrapper", case);
 }
 
-fn compare_read_back(case: &Lists, written: &[u8]) {
-    let (mut numbers, mut ends) = (vec![0; case.numbers.len()], [0; 32]);
+fn compare_read_back(case: &Case, written: &[u8]) {
+    let lists = &case.lists;
+    let (mut numbers, mut ends) = (vec![0; lists.numbers.len()], [0; 32]);
     let read = zwailmoor::decode_delivery(written, &mut numbers, &mut ends).expect("what was written reads");
     let (numbers, ends) = (&numbers[..read.numbers], &ends[..read.lists]);
-    let used = *case.ends.last().expect("accepted lists") as usize;
+    let used = *lists.ends.last().expect("accepted lists") as usize;
     assert_eq!(
         (numbers, ends),
-        (&case.numbers[..used], &case.ends[..]),
+        (&lists.numbers[..used], &lists.ends[..]),
         "read back: {case:#?}"
     );
 }
@@ -174,15 +175,16 @@ fn encode_delivery() {
     let mut tally = Tally::default();
     for number in 0..cases() {
         let case = lists_case(4, number);
-        let expected = model::encode(&case.numbers, &case.ends, case.room);
+        let lists = &case.lists;
+        let expected = model::encode(lists, case.room);
         compare_lists(&case, &expected);
         if let Ok(written) = &expected {
             compare_read_back(&case, written);
-            tally.edge("32 lists", case.ends.len() == 32);
-            tally.edge("a list of 65,535", longest(&case.ends) == 65_535);
+            tally.edge("32 lists", lists.ends.len() == 32);
+            tally.edge("a list of 65,535", longest(lists) == 65_535);
             tally.edge(
                 "numbers behind the last end",
-                case.ends.last() < Some(&(case.numbers.len() as u32)),
+                lists.ends.last() < Some(&(lists.numbers.len() as u32)),
             );
             tally.edge("an exact row", written.len() == case.room);
         }
@@ -196,13 +198,14 @@ fn list_part() {
     let mut tally = Tally::default();
     for number in 0..cases() {
         let case = lists_case(5, number);
-        let expected = lists::part(&case.numbers, &case.ends, case.list);
-        let span = ffi::list_span(&case.numbers, &case.ends, case.list);
+        let Lists { numbers, ends } = &case.lists;
+        let expected = lists::part(&case.lists, case.list);
+        let span = ffi::list_span(numbers, ends, case.list);
         assert_eq!((span.start, span.size), (expected.start, expected.len()), "{case:#?}");
-        let part = zwailmoor::list_part(&case.numbers, &case.ends, case.list);
-        assert_eq!(part.as_ptr_range(), case.numbers[expected].as_ptr_range(), "{case:#?}");
-        let accepted = lists::accepted(&case.numbers, &case.ends);
-        tally.edge("no such list", accepted.is_ok() && case.list >= case.ends.len());
+        let part = zwailmoor::list_part(numbers, ends, case.list);
+        assert_eq!(part.as_ptr_range(), numbers[expected].as_ptr_range(), "{case:#?}");
+        let accepted = lists::accepted(&case.lists);
+        tally.edge("no such list", accepted.is_ok() && case.list >= ends.len());
         tally.count(&accepted);
     }
     // No refusal comes of this call: these are the lists' own, for which the part is empty.

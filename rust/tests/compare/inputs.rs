@@ -4,6 +4,7 @@ use std::collections::BTreeSet;
 
 use crate::evaluator::bits::Writer;
 use crate::evaluator::delivery::{least_width, write_list};
+use crate::evaluator::lists::Lists;
 use crate::random::Random;
 
 /// Lengths about what is needed: too short, exact, longer.
@@ -191,36 +192,39 @@ pub fn long_list(random: &mut Random) -> Vec<u32> {
 }
 
 /// Lists one after the other, and their ends.
-pub fn lent(lists: &[Vec<u32>]) -> (Vec<u32>, Vec<u32>) {
+pub fn lent(lists: &[Vec<u32>]) -> Lists {
     let ends = lists.iter().scan(0, |end, list| {
         *end += list.len() as u32;
         Some(*end)
     });
-    (lists.concat(), ends.collect())
+    Lists {
+        numbers: lists.concat(),
+        ends: ends.collect(),
+    }
 }
 
 /// The longest list's length, of accepted lists.
-pub fn longest(ends: &[u32]) -> u32 {
+pub fn longest(Lists { ends, .. }: &Lists) -> u32 {
     let starts = std::iter::once(&0).chain(ends);
     ends.iter().zip(starts).map(|(end, start)| end - start).max().unwrap_or(0)
 }
 
 /// Lists as they are lent: mostly good, else with something wrong, or two things.
-pub fn lent_lists(random: &mut Random) -> (Vec<u32>, Vec<u32>) {
-    let (mut numbers, mut ends) = lent(&some_lists(random));
+pub fn lent_lists(random: &mut Random) -> Lists {
+    let mut lists = lent(&some_lists(random));
     if random.one_in(6) {
         let behind = random.between(1, 3);
-        numbers.extend((0..behind).map(|_| number(random)));
+        lists.numbers.extend((0..behind).map(|_| number(random)));
     }
     if random.one_in(5) {
         for _ in 0..random.between(1, 2) {
-            spoil(random, &mut numbers, &mut ends);
+            spoil(random, &mut lists);
         }
     }
-    (numbers, ends)
+    lists
 }
 
-fn spoil(random: &mut Random, numbers: &mut Vec<u32>, ends: &mut [u32]) {
+fn spoil(random: &mut Random, Lists { numbers, ends }: &mut Lists) {
     match random.below(5) {
         0 if !ends.is_empty() => {
             let at = random.below(ends.len());

@@ -1,6 +1,7 @@
 //! Runs, whole and broken off, and the iterator over pages.
 
-use crate::evaluator::{self, RunResult, TOP};
+use crate::evaluator::lists::Lists;
+use crate::evaluator::{self, Begin, RunResult, TOP};
 use crate::ffi;
 use crate::inputs::{damage, expression_row, lent, lent_lists, long_list, longest, number, packed_anyway, some_lists};
 use crate::random::{cases, seed, Random};
@@ -19,10 +20,9 @@ const REPLIES: [(&str, u64); 4] = [("no", TOP), ("yes", TOP + 1), ("finished", T
 #[derive(Debug, Clone)]
 struct Run {
     number: u64,
-    numbers: Vec<u32>,
-    ends: Vec<u32>,
+    lists: Lists,
     packed: Vec<u8>,
-    bookmark: u64,
+    begin: Begin,
     codes: Vec<u8>,
     arguments: Vec<u32>,
     room: usize,
@@ -36,6 +36,12 @@ fn bookmark(random: &mut Random) -> u64 {
         13 => random.next() % TOP,
         14 => random.pick(&[TOP, TOP, TOP + 1, TOP + 2, 1 << 33, u64::MAX]),
         _ => u64::from(number(random)) + 1,
+    }
+}
+
+fn begin(random: &mut Random) -> Begin {
+    Begin {
+        bookmark: bookmark(random),
     }
 }
 
@@ -80,7 +86,7 @@ fn packed(random: &mut Random, lists: usize) -> Vec<u8> {
 
 fn case(number: u64) -> Run {
     let mut random = Random::of_case(seed() ^ 6, number);
-    let (numbers, ends) = if random.one_in(4000) {
+    let lists = if random.one_in(4000) {
         let lists = [some_lists(&mut random), vec![long_list(&mut random)]].concat();
         lent(&lists)
     } else if random.one_in(2) {
@@ -88,8 +94,8 @@ fn case(number: u64) -> Run {
     } else {
         lent_lists(&mut random)
     };
-    let packed = packed(&mut random, ends.len());
-    let (mut codes, mut arguments) = calls(&mut random, &numbers);
+    let packed = packed(&mut random, lists.ends.len());
+    let (mut codes, mut arguments) = calls(&mut random, &lists.numbers);
     let mut room = codes.len() + random.pick(&[0, 0, 1, 4]);
     match random.below(40) {
         0 => codes.push(0),
@@ -99,10 +105,9 @@ fn case(number: u64) -> Run {
     }
     Run {
         number,
-        numbers,
-        ends,
+        lists,
         packed,
-        bookmark: bookmark(&mut random),
+        begin: begin(&mut random),
         codes,
         arguments,
         room,
@@ -111,15 +116,7 @@ fn case(number: u64) -> Run {
 
 impl Run {
     fn expected(&self) -> Result<RunResult, u32> {
-        evaluator::run(
-            &self.numbers,
-            &self.ends,
-            &self.packed,
-            self.bookmark,
-            &self.codes,
-            &self.arguments,
-            self.room,
-        )
+        evaluator::run(&self.lists, &self.packed, self.begin, &self.codes, &self.arguments, self.room)
     }
 
     /// Every part of what both interfaces send back, and the whole row of replies.
@@ -128,7 +125,7 @@ impl Run {
             replies: vec![],
             moves: 0,
             places: [0; 48],
-            bookmark: 0,
+            last: Begin::default(),
         };
         let number = expected.as_ref().err().copied().unwrap_or(0);
         let expected = expected.as_ref().unwrap_or(&refused);
@@ -138,10 +135,9 @@ impl Run {
 
     fn compare_raw(&self, number: u32, expected: &RunResult) {
         let Run {
-            numbers,
-            ends,
+            lists: Lists { numbers, ends },
             packed,
-            bookmark,
+            begin: Begin { bookmark },
             codes,
             arguments,
             ..
@@ -152,7 +148,7 @@ impl Run {
             number,
             moves: expected.moves,
             places: expected.places,
-            bookmark: expected.bookmark,
+            bookmark: expected.last.bookmark,
         };
         assert_eq!(sent, parts, "{self:#?}");
         lent.assert_holds(&expected.replies, "the replies", self);
@@ -160,10 +156,9 @@ impl Run {
 
     fn compare_wrapper(&self, number: u32, expected: &RunResult) {
         let Run {
-            numbers,
-            ends,
+            lists: Lists { numbers, ends },
             packed,
-            bookmark,
+            begin: Begin { bookmark },
             codes,
             arguments,
             ..
@@ -173,7 +168,7 @@ impl Run {
         let sent = result
             .map(|result| (result.moves, result.places, result.bookmark))
             .map_err(|refusal| refusal.number());
-        let parts = (expected.moves, expected.places, expected.bookmark);
+        let parts = (expected.moves, expected.places, expected.last.bookmark);
         let parts = if number == 0 { Ok(parts) } else { Err(number) };
         assert_eq!(sent, parts, "{self:#?}");
         lent.assert_holds(&expected.replies, "the replies by the wrapper", self);
@@ -181,9 +176,9 @@ impl Run {
 
     /// Broken off before call k and taken up from the bookmark: the same replies and the same last bookmark.
     fn compare_broken_off(&self, whole: &RunResult, k: usize) {
-        let part = |bookmark, calls: std::ops::Range<usize>| {
+        let part = |begin, calls: std::ops::Range<usize>| {
             let part = Run {
-                bookmark,
+                begin,
                 codes: self.codes[calls.clone()].to_vec(),
                 arguments: self.arguments[calls.clone()].to_vec(),
                 room: calls.len(),
@@ -193,25 +188,27 @@ impl Run {
             part.compare(&expected);
             expected.expect("a part of an accepted run is accepted")
         };
-        let first = part(self.bookmark, 0..k);
-        let rest = part(first.bookmark, k..self.codes.len());
+        let first = part(self.begin, 0..k);
+        let rest = part(first.last, k..self.codes.len());
         assert_eq!(
             [first.replies, rest.replies].concat(),
             whole.replies,
             "broken off before {k}: {self:#?}"
         );
-        assert_eq!(rest.bookmark, whole.bookmark, "broken off before {k}: {self:#?}");
+        assert_eq!(rest.last, whole.last, "broken off before {k}: {self:#?}");
     }
 
     /// The iterator, in pages of some size, against the set.
     fn compare_members(&self, page: usize) {
-        let members = zwailmoor::members(&self.numbers, &self.ends, &self.packed, self.bookmark, page);
+        let Lists { numbers, ends } = &self.lists;
+        let Begin { bookmark } = self.begin;
+        let members = zwailmoor::members(numbers, ends, &self.packed, bookmark, page);
         // One more than there can be, so that an iterator that does not end is seen.
-        let most = self.numbers.len() + 1;
+        let most = numbers.len() + 1;
         let drawn = members.map(|members| members.take(most).collect::<Vec<u32>>());
         let drawn = drawn.map_err(|refusal| refusal.number());
-        let source = evaluator::source(&self.numbers, &self.ends, &self.packed, self.bookmark);
-        let above = |member: &u32| u64::from(*member) >= self.bookmark;
+        let source = evaluator::source(&self.lists, &self.packed, self.begin);
+        let above = |member: &u32| u64::from(*member) >= bookmark;
         let expected = source.map(|source| source.set.into_iter().filter(above).collect::<Vec<u32>>());
         assert_eq!(drawn, expected, "in pages of {page}: {self:#?}");
     }
@@ -219,10 +216,11 @@ impl Run {
 
 /// What a good many cases must have had, all accepted.
 fn edges(tally: &mut Tally, case: &Run, result: &RunResult) {
-    let tree = evaluator::expression::read_packed(&case.packed, case.ends.len()).expect("an accepted expression");
-    tally.edge("32 lists", case.ends.len() == 32);
-    tally.edge("a list of 65,535", longest(&case.ends) == 65_535);
-    tally.edge("bookmark at the top", case.bookmark == TOP);
+    let lists = case.lists.ends.len();
+    let tree = evaluator::expression::read_packed(&case.packed, lists).expect("an accepted expression");
+    tally.edge("32 lists", lists == 32);
+    tally.edge("a list of 65,535", longest(&case.lists) == 65_535);
+    tally.edge("bookmark at the top", case.begin.bookmark == TOP);
     tally.edge("48 nodes", tree.row().len() == 48);
     tally.edge("depth 12", tree.depth() == 12);
     tally.edge("4,294,967,295 drawn", result.replies.contains(&(TOP - 1)));
@@ -251,7 +249,7 @@ fn run() {
             case.compare_broken_off(whole, random.below(case.codes.len() + 1));
             edges(&mut tally, &case, whole);
         }
-        let iterated = random.one_in(4) && case.numbers.len() < 2000;
+        let iterated = random.one_in(4) && case.lists.numbers.len() < 2000;
         if iterated {
             case.compare_members(random.pick(&[0, 1, 2, 3, 7, 1000]));
         }

@@ -5,10 +5,10 @@ use Rattle.evaluator.proofs.lengths.Statement.{statement}
 use Rattle.evaluator.proofs.lengths.Tie as tie
 
 abbrev Inv-loop : tie.InvT-loop
-Inv-loop numbers ends packed found₀ row count i₀ found i = (i ≤ count) × (count ≤ 48)
+Inv-loop numbers lists packed found₀ row count i₀ found i = (i ≤ count) × (count ≤ 48)
 
 abbrev μ-loop : tie.MeasureT-loop
-μ-loop numbers ends packed found₀ row count i₀ found i = count - i
+μ-loop numbers lists packed found₀ row count i₀ found i = count - i
 
 ends-refused-requires : tie.Need-ends-refused-requires Inv-loop μ-loop
 ends-refused-requires c κs = search needs

@@ -7,10 +7,10 @@ use Rattle.evaluator.proofs.run.Statement.{statement}
 use Rattle.evaluator.proofs.run.Tie as tie
 
 abbrev Inv-loop : tie.InvT-loop
-Inv-loop numbers ends tokens bookmark codes arguments replies₀ floor₀ i₀ i-end replies floor i = (i ≤ length codes) × (length replies ≡ length replies₀)
+Inv-loop numbers ends tokens codes arguments replies₀ last₀ i₀ i-end replies last i = (i ≤ length codes) × (length replies ≡ length replies₀)
 
 abbrev μ-loop : tie.MeasureT-loop
-μ-loop numbers ends tokens bookmark codes arguments replies₀ floor₀ i₀ i-end replies floor i = length codes - i
+μ-loop numbers ends tokens codes arguments replies₀ last₀ i₀ i-end replies last i = length codes - i
 
 loop-holds : tie.Need-loop-holds Inv-loop μ-loop
 loop-holds c = search needs

@@ -1,10 +1,11 @@
 //! Deliveries, read and written.
 
 use super::bits::{Reader, Writer};
-use super::{lists, Refused};
+use super::lists::{accepted, Lists};
+use super::Refused;
 
-/// The numbers and the ends of a delivery, into rows of so many places.
-pub fn decode(bytes: &[u8], numbers_room: usize, ends_room: usize) -> Result<(Vec<u32>, Vec<u32>), Refused> {
+/// The lists of a delivery, into rows of so many places.
+pub fn decode(bytes: &[u8], numbers_room: usize, ends_room: usize) -> Result<Lists, Refused> {
     let mut bits = Reader::new(bytes);
     let count = bits.take(6)? as usize;
     if count == 0 || count > 32 {
@@ -13,14 +14,14 @@ pub fn decode(bytes: &[u8], numbers_room: usize, ends_room: usize) -> Result<(Ve
     if count > ends_room {
         return Err(6);
     }
-    let (mut numbers, mut ends) = (Vec::new(), Vec::new());
+    let mut lists = Lists::default();
     for _ in 0..count {
-        let list = read_list(&mut bits, numbers_room - numbers.len())?;
-        numbers.extend(list);
-        ends.push(numbers.len() as u32);
+        let list = read_list(&mut bits, numbers_room - lists.numbers.len())?;
+        lists.numbers.extend(list);
+        lists.ends.push(lists.numbers.len() as u32);
     }
     bits.end()?;
-    Ok((numbers, ends))
+    Ok(lists)
 }
 
 fn read_list(bits: &mut Reader, room: usize) -> Result<Vec<u32>, Refused> {
@@ -70,8 +71,8 @@ pub fn write_list(bits: &mut Writer, list: &[u32]) {
 }
 
 /// Lists as a delivery, into so many bytes.
-pub fn encode(numbers: &[u32], ends: &[u32], room: usize) -> Result<Vec<u8>, Refused> {
-    let lists = lists::accepted(numbers, ends)?;
+pub fn encode(lists: &Lists, room: usize) -> Result<Vec<u8>, Refused> {
+    let lists = accepted(lists)?;
     let mut bits = Writer::default();
     bits.put(lists.len() as u64, 6);
     lists.iter().for_each(|list| write_list(&mut bits, list));

@@ -3,7 +3,7 @@
 use std::collections::BTreeSet;
 
 use super::bits::{Reader, Writer};
-use super::lists::Lists;
+use super::lists::Each;
 use super::Refused;
 
 #[derive(Debug, Clone, PartialEq, Eq)]
@@ -125,7 +125,7 @@ pub fn pack(row: &[u8], lists: usize, room: usize) -> Result<Vec<u8>, Refused> {
 }
 
 impl Tree {
-    pub fn denoted(&self, lists: &Lists) -> BTreeSet<u32> {
+    pub fn denoted(&self, lists: &Each) -> BTreeSet<u32> {
         match self {
             Tree::List(list) => lists[*list].iter().copied().collect(),
             Tree::Difference(first, second) => &first.denoted(lists) - &second.denoted(lists),

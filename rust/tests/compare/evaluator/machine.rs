@@ -2,7 +2,7 @@
 
 use std::collections::BTreeSet;
 
-use super::TOP;
+use super::{Begin, TOP};
 
 const NO: u64 = 4_294_967_296;
 const YES: u64 = 4_294_967_297;
@@ -15,34 +15,34 @@ fn least(set: &BTreeSet<u32>, floor: u64) -> Option<u32> {
     set.range(floor..).next().copied()
 }
 
-fn draw(set: &BTreeSet<u32>, floor: &mut u64) -> u64 {
-    match least(set, *floor) {
+fn draw(set: &BTreeSet<u32>, at: &mut Begin) -> u64 {
+    match least(set, at.bookmark) {
         Some(member) => {
-            *floor = u64::from(member) + 1;
+            at.bookmark = u64::from(member) + 1;
             u64::from(member)
         }
         None => {
-            *floor = TOP;
+            at.bookmark = TOP;
             FINISHED
         }
     }
 }
 
-fn reply(set: &BTreeSet<u32>, floor: &mut u64, code: u8, number: u32) -> u64 {
+fn reply(set: &BTreeSet<u32>, at: &mut Begin, code: u8, number: u32) -> u64 {
     let d = u64::from(number);
     match code {
-        0 => draw(set, floor),
+        0 => draw(set, at),
         1 => {
-            *floor = d.max(*floor);
-            draw(set, floor)
+            at.bookmark = d.max(at.bookmark);
+            draw(set, at)
         }
         2 => {
-            *floor = (d + 1).max(*floor);
-            draw(set, floor)
+            at.bookmark = (d + 1).max(at.bookmark);
+            draw(set, at)
         }
         3 => {
-            let yes = d >= *floor && set.contains(&number);
-            *floor = d.max(*floor);
+            let yes = d >= at.bookmark && set.contains(&number);
+            at.bookmark = d.max(at.bookmark);
             if yes {
                 YES
             } else {
@@ -53,12 +53,12 @@ fn reply(set: &BTreeSet<u32>, floor: &mut u64, code: u8, number: u32) -> u64 {
     }
 }
 
-/// One reply for each call, and the last floor.
-pub fn replies(set: &BTreeSet<u32>, bookmark: u64, calls: &[(u8, u32)]) -> (Vec<u64>, u64) {
-    let mut floor = bookmark;
+/// One reply for each call, and where the last leaves the run.
+pub fn replies(set: &BTreeSet<u32>, begin: Begin, calls: &[(u8, u32)]) -> (Vec<u64>, Begin) {
+    let mut at = begin;
     let replies = calls
         .iter()
-        .map(|(code, number)| reply(set, &mut floor, *code, *number))
+        .map(|(code, number)| reply(set, &mut at, *code, *number))
         .collect();
-    (replies, floor)
+    (replies, at)
 }

@@ -11,11 +11,17 @@ pub mod machine;
 pub mod steps;
 
 use expression::Tree;
-use lists::Lists;
+use lists::{Each, Lists};
 use std::collections::BTreeSet;
 
 /// A refusal's number.
 pub type Refused = u32;
+
+/// Where a run begins, and where each of its calls leaves it: the bookmark is the floor.
+#[derive(Debug, Clone, Copy, PartialEq, Eq, Default)]
+pub struct Begin {
+    pub bookmark: u64,
+}
 
 /// All that a run writes and hands back.
 #[derive(Debug, Clone, PartialEq, Eq)]
@@ -23,12 +29,12 @@ pub struct RunResult {
     pub replies: Vec<u64>,
     pub moves: u32,
     pub places: [u16; 48],
-    pub bookmark: u64,
+    pub last: Begin,
 }
 
 /// What a run works on once its lists, expression and bookmark are accepted.
 pub struct Source {
-    pub lists: Lists,
+    pub lists: Each,
     pub tree: Tree,
     pub set: BTreeSet<u32>,
 }
@@ -36,10 +42,10 @@ pub struct Source {
 pub const TOP: u64 = 4_294_967_296;
 
 /// The tests that a run makes ahead of 13.
-pub fn source(numbers: &[u32], ends: &[u32], packed: &[u8], bookmark: u64) -> Result<Source, Refused> {
-    let lists = lists::accepted(numbers, ends)?;
+pub fn source(lists: &Lists, packed: &[u8], begin: Begin) -> Result<Source, Refused> {
+    let lists = lists::accepted(lists)?;
     let tree = expression::read_packed(packed, lists.len())?;
-    if bookmark > TOP {
+    if begin.bookmark > TOP {
         return Err(12);
     }
     let set = tree.denoted(&lists);
@@ -48,26 +54,25 @@ pub fn source(numbers: &[u32], ends: &[u32], packed: &[u8], bookmark: u64) -> Re
 
 /// A run, into a row of so many replies.
 pub fn run(
-    numbers: &[u32],
-    ends: &[u32],
+    lists: &Lists,
     packed: &[u8],
-    bookmark: u64,
+    begin: Begin,
     codes: &[u8],
     arguments: &[u32],
     room: usize,
 ) -> Result<RunResult, Refused> {
-    let source = source(numbers, ends, packed, bookmark)?;
+    let source = source(lists, packed, begin)?;
     if codes.len() != arguments.len() || room < codes.len() {
         return Err(13);
     }
     let calls: Vec<(u8, u32)> = codes.iter().copied().zip(arguments.iter().copied()).collect();
-    let (replies, last) = machine::replies(&source.set, bookmark, &calls);
-    let (places, floor) = steps::places(&source.tree, &source.lists, bookmark, &calls);
-    assert_eq!(floor, last, "the steps and the machine of this evaluator differ");
+    let (replies, last) = machine::replies(&source.set, begin, &calls);
+    let (places, by_steps) = steps::places(&source.tree, &source.lists, begin, &calls);
+    assert_eq!(by_steps, last, "the steps and the machine of this evaluator differ");
     Ok(RunResult {
         replies,
         moves: places.iter().map(|place| u32::from(*place)).sum(),
         places,
-        bookmark: last,
+        last,
     })
 }

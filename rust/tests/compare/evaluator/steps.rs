@@ -1,8 +1,8 @@
 //! The generator's steps: a tree of readers that move one at a time. They give the places; replies are the machine's.
 
 use super::expression::Tree;
-use super::lists::Lists;
-use super::TOP;
+use super::lists::Each;
+use super::{Begin, TOP};
 
 enum Generator<'a> {
     Reader { list: &'a [u32], place: usize },
@@ -12,7 +12,7 @@ enum Generator<'a> {
 }
 
 impl<'a> Generator<'a> {
-    fn new(tree: &Tree, lists: &'a Lists) -> Self {
+    fn new(tree: &Tree, lists: &'a Each) -> Self {
         let all = |members: &[Tree]| members.iter().map(|member| Self::new(member, lists)).collect();
         match tree {
             Tree::List(list) => Generator::Reader {
@@ -90,20 +90,20 @@ fn seek_intersection(members: &mut [Generator], e: u64) -> Option<u64> {
     Some(candidate)
 }
 
-/// Where the readers stand after these calls, and the floor.
-pub fn places(tree: &Tree, lists: &Lists, bookmark: u64, calls: &[(u8, u32)]) -> ([u16; 48], u64) {
+/// Where the readers stand after these calls, and where these leave the run.
+pub fn places(tree: &Tree, lists: &Each, begin: Begin, calls: &[(u8, u32)]) -> ([u16; 48], Begin) {
     let mut generator = Generator::new(tree, lists);
-    let mut floor = bookmark;
+    let mut at = begin;
     for (code, number) in calls {
         let d = u64::from(*number);
         match code {
             0..=2 => {
-                let raised = [0, d, d + 1][usize::from(*code)].max(floor);
-                floor = generator.seek(raised).map_or(TOP, |answer| answer + 1);
+                let raised = [0, d, d + 1][usize::from(*code)].max(at.bookmark);
+                at.bookmark = generator.seek(raised).map_or(TOP, |answer| answer + 1);
             }
-            3 if d >= floor => {
+            3 if d >= at.bookmark => {
                 generator.check(d);
-                floor = d;
+                at.bookmark = d;
             }
             _ => {}
         }
@@ -111,5 +111,5 @@ pub fn places(tree: &Tree, lists: &Lists, bookmark: u64, calls: &[(u8, u32)]) ->
     let mut row = Vec::new();
     generator.places(&mut row);
     row.resize(48, 0);
-    (row.try_into().expect("an expression has at most 48 nodes"), floor)
+    (row.try_into().expect("an expression has at most 48 nodes"), at)
 }

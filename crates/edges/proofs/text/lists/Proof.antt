@@ -1,21 +1,17 @@
 -- `edges::text::lists` is safe and ends: each index is within its row. The measure is what is left of the range.
 use Prim.Native.Nat.{_≤_, _-_}
-use lib.ListN.{length}
 use borrow.Author.Needs.{needs}
 use Rattle.edges.proofs.text.lists.Statement.{statement}
 use Rattle.edges.proofs.text.lists.Tie as tie
 
 abbrev Inv-loop : tie.InvT-loop
-Inv-loop row ends k₀ k-end k = k-end ≤ length ends
+Inv-loop row laid k₀ k-end k = k ≤ k
 
 abbrev μ-loop : tie.MeasureT-loop
-μ-loop row ends k₀ k-end k = k-end - k
+μ-loop row laid k₀ k-end k = k-end - k
 
 loop-holds : tie.Need-loop-holds Inv-loop μ-loop
 loop-holds c = search needs
-
-list-part-requires : tie.Need-list-part-requires Inv-loop μ-loop
-list-part-requires c κs = search needs
 
 list-requires : tie.Need-list-requires Inv-loop μ-loop
 list-requires c κs = search needs
@@ -39,7 +35,6 @@ lists-spec =
     Inv-loop
     μ-loop
     loop-holds
-    list-part-requires
     list-requires
     add-k
     loop-less

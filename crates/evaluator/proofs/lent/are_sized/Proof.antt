@@ -1,15 +1,14 @@
 -- Safe and ending: the lists still to be tested grow fewer.
 use Prim.Native.Nat.{_-_, _≤_}
 use borrow.Author.Needs.{needs}
-use lib.ListN.{length}
 use Rattle.evaluator.proofs.lent.are_sized.Statement.{statement}
 use Rattle.evaluator.proofs.lent.are_sized.Tie as tie
 
 abbrev Inv-loop : tie.InvT-loop
-Inv-loop numbers ends k₀ k-end k = k ≤ length ends
+Inv-loop numbers lists k₀ k-end k = k ≤ lists .count
 
 abbrev μ-loop : tie.MeasureT-loop
-μ-loop numbers ends k₀ k-end k = length ends - k
+μ-loop numbers lists k₀ k-end k = lists .count - k
 
 loop-holds : tie.Need-loop-holds Inv-loop μ-loop
 loop-holds c = search needs

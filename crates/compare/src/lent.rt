@@ -1,0 +1,55 @@
+// A case's lists and where its run begins, as the second evaluator takes them; and the engine's run from these. What else comes to
+// lists, or to where a run begins, is handed on here.
+use cases::first_numbers;
+use evaluator::Begin;
+use evaluator::Lists;
+use model::RunResult;
+
+pub fn lists_of(made: cases::Lists) -> Lists {
+    let ends = made.ends;
+    evaluator::laid(first_numbers(&ends, made.count))
+}
+
+pub fn begin_of(made: cases::Begin) -> Begin {
+    Begin {
+        bookmark: made.bookmark,
+    }
+}
+
+// Where the run behind this one begins.
+pub fn last_of(ran: RunResult) -> Begin {
+    Begin {
+        bookmark: ran.bookmark,
+    }
+}
+
+// From the least number on.
+pub fn first() -> Begin {
+    Begin { bookmark: 0 }
+}
+
+pub fn same_begin(a: Begin, b: Begin) -> bool {
+    a.bookmark == b.bookmark
+}
+
+// A run of the engine.
+pub fn run(
+    numbers: &[u32],
+    lists: Lists,
+    packed: &[u8],
+    begin: Begin,
+    codes: &[u8],
+    arguments: &[u32],
+    replies: &mut [u64],
+) -> RunResult {
+    let ends = lists.ends;
+    engine::run(
+        numbers,
+        first_numbers(&ends, lists.count),
+        packed,
+        begin.bookmark,
+        codes,
+        arguments,
+        replies,
+    )
+}
