@@ -16,12 +16,17 @@ use Rattle.model.specs.Lists.{top, count-holds}
 use Rattle.model.specs.Sets.{all-numbers}
 use Rattle.model.specs.Fields.{Bytes, field, bits, take-field, only-fill}
 use Rattle.model.specs.Delivery.{largest-gap, width-from, width, gap-bits, body-bits, Form, counted, list-bits, delivery-in, read-gaps, read-body, read-list, read-lists, read-in, delivery, read-delivery, read-stored}
-use Rattle.model.specs.Demands.{Least-width}
 use Rattle.model.proofs.Order.{and-true, split, Up}
 use Rattle.model.proofs.Accepted.{accepted-same, bound, required, field-lt}
 use Rattle.model.proofs.Bits.{taken, was-field, filled, fill-only, bytes-are}
 
 -- ---- the width
+
+-- "the least width that holds the largest gap minus 1, and at least 1": w is that of m
+pub record Least-width (m w : ℕ) : Type 0 where
+  pub one : 1 ≤ w
+  pub holds : m < 2 ^ w
+  pub least : (k : ℕ) → 1 ≤ k → m < 2 ^ k → w ≤ k
 
 -- from a width below which none holds m, with enough widths left
 width-from-is : (n w m : ℕ) → 1 ≤ w → ((k : ℕ) → 1 ≤ k → k < w → 2 ^ k ≤ m) → m < 2 ^ (w + n) → Least-width m (width-from n w m)

@@ -1,12 +1,12 @@
 -- What the program lists is the denoted set, drawn by one run over the delivered lists. Assumes nothing.
-use mathlib.Core.Path.{_≡_, refl, ap, ap₂, _∙_, subst}
+use mathlib.Core.Path.{_≡_, refl, sym, ap, ap₂, _∙_, subst}
 use mathlib.Core.Bool.{Bool, _&&_}
 use mathlib.Core.List.{List, _++_, map}
 use Prim.Native.Nat.{ℕ, suc, _-_}
 use native.Mathlib.Omega.{arith}
 use lib.Dec.{leb}
 use borrow.Author.Tests.{le-leb}
-use lib.ListN.{length, replicate, length-replicate}
+use lib.ListN.{length, replicate}
 use lib.Seq.{take-all}
 use Rattle.model.specs.declared.Reply.the-variants.{Member, Finished}
 use Rattle.model.specs.Outcome.{accepted}
@@ -17,7 +17,7 @@ use Rattle.model.specs.Forms.{there, read-packed}
 use Rattle.model.specs.Delivery.{read-delivery}
 use Rattle.model.specs.Calls.{laid-out}
 use Rattle.model.specs.Program.{halves, Listing, listing-of, listing}
-use Rattle.model.specs.Demands.{nexts, Listed}
+use Rattle.model.specs.Demands.{Sound-run, Listed}
 use Rattle.model.proofs.Accepted.{accepted-same, bound, required}
 use Rattle.model.proofs.Denoted.{members-up, from-all}
 use Rattle.model.proofs.Deliveries.{Delivered, delivery-holds}
@@ -53,7 +53,7 @@ module _ (input : List ℕ) (stored : List ℕ × List ℕ) (is-stored : halves 
         ascend = rw all at (d .ascend);
         every = λ x. rw all at (d .every x) ∙ ap (λ (b : Bool). b && member ls t x) (le-leb 0 x (omega arith));
         result = d .result m;
-        ran = d .ran m (nexts (members ls t)) (length-replicate m 0);
+        ran = λ ds e lent f. subst (λ (n : ℕ). Sound-run (laid-out ls) (stored .0) source (starting 0) (replicate n 0) ds lent (d .result m)) (sym e) (d .ran m ds e lent (omega arith));
         replies = rw all at (d .replies m) ∙ ap₂ (λ (k : List ℕ) (n : ℕ). map Member k ++ replicate n Finished) (take-all m (members ls t) (omega arith)) more;
         moved = refl;
       }

@@ -50,12 +50,11 @@ ran-refused n = record { number = n; moves = 0; places = replicate 48 0; bookmar
 abbrev pub counted-refused : ℕ → MembersResult
 counted-refused n = record { number = n; count = 0; moves = 0 }
 
--- one end for each list, from lists that start at `start`
+-- one end for each list, from lists that start at `start`; and lists laid one after the other, as they are lent
 unfoldable pub ends-from : ℕ → List (List ℕ) → List ℕ
 ends-from start [] = []
 ends-from start (l ∷ ls) = (start + length l) ∷ ends-from (start + length l) ls
 
--- lists laid one after the other, as they are lent
 abbrev pub laid-out : List (List ℕ) → Lent
 laid-out ls = lend (all-numbers ls) (ends-from 0 ls)
 

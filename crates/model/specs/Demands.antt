@@ -2,7 +2,7 @@
 use mathlib.Core.Path.{_≡_}
 use mathlib.Core.Bool.{true, _&&_}
 use mathlib.Core.List.{List, [], _∷_, _++_, map}
-use Prim.Native.Nat.{ℕ, suc, _+_, _-_, _^_, _≤_, _<_}
+use Prim.Native.Nat.{ℕ, suc, _+_, _-_, _≤_}
 use lib.Dec.{leb}
 use lib.ListN.{length, getD, take, drop, replicate}
 use Rattle.model.specs.declared.Reply.the-variants.{Member, Finished}
@@ -53,12 +53,6 @@ pub record Expression (test : Leaf-test) (t : Tree) : Type 0 where
   pub levels : depth t ≤ 12
   pub named : Named test t
 
--- "the least width that holds the largest gap minus 1, and at least 1": w is that of m
-pub record Least-width (m w : ℕ) : Type 0 where
-  pub one : 1 ≤ w
-  pub holds : m < 2 ^ w
-  pub least : (k : ℕ) → 1 ≤ k → m < 2 ^ k → w ≤ k
-
 -- ---- demand 2, the stored forms, about the calls: "What is written from a row or from lists reads back the same, and
 -- accepted bytes are written back the same"
 
@@ -92,11 +86,7 @@ pub record Second-demand : Type 0 where
 
 -- a call that has had this result: its parts, and in its lent row the replies and nothing behind them
 abbrev pub ran-all : Result → List ℕ → Sent
-ran-all r lent = record {
-  number = 0;
-  parts = run-parts (r .moves) (r .places) (r .last);
-  rows = (map encode (r .replies) ++ drop (length (r .replies)) lent) ∷ [];
-}
+ran-all r lent = record { number = 0; parts = run-parts (r .moves) (r .places) (r .last); rows = (map encode (r .replies) ++ drop (length (r .replies)) lent) ∷ [] }
 
 module _ (l : Lent) (expression : List ℕ) where
   -- one run, accepted; the call sends back its result. "In every one of these runs the reported reader moves and places
@@ -151,8 +141,7 @@ module _ (l : Lent) (expression : List ℕ) where
 -- accepted by the tests ahead of 13; 13 asks for as many numbers as codes
 abbrev pub Third-demand : Type 0
 Third-demand = (l : Lent) (expression : List ℕ) → Numbers (l .numbers) → (s : Source) → source-of l expression ≡ accepted s
-    → (start : Start) → Low start → (codes ds : List ℕ) → Numbers ds → length codes ≡ length ds
-    → Demand-three l expression s start codes ds
+    → (start : Start) → Low start → (codes ds : List ℕ) → Numbers ds → length codes ≡ length ds → Demand-three l expression s start codes ds
 
 -- the demand of one call, for its contract: if the tests ahead of 13 accept what it was given, and 13 as well, then it has
 -- sent back the result that the demand asks for
@@ -160,13 +149,8 @@ abbrev pub Third-demand-met : Lent → List ℕ → Start → List ℕ → List 
 Third-demand-met l expression start codes ds lent back = (s : Source) → source-of l expression ≡ accepted s → Low start
     → length codes ≡ length ds → length codes ≤ length lent → Meets-third l expression s start codes ds lent back
 
--- a next for each member and one more; its number is ignored
-abbrev pub nexts : List ℕ → List ℕ
-nexts members = replicate (suc (length members)) 0
-
 -- ---- the program: every member of the delivered lists' expression, ascending, and the moves of "one run from bookmark
--- 0, whose only finished is its last reply", of the delivered lists laid one after the other, into any reply row that is
--- long enough
+-- 0, whose only finished is its last reply", a next for each member and one more, over these lists laid out
 pub record Listed (input : List ℕ) (l : Listing) : Type 0 where
   pub stored : List ℕ × List ℕ
   pub is-stored : halves input ≡ accepted stored
@@ -176,7 +160,7 @@ pub record Listed (input : List ℕ) (l : Listing) : Type 0 where
   pub ascend : ascending (l .members) ≡ true
   pub every : (x : ℕ) → among x (l .members) ≡ member (source .lists) (source .tree) x
   pub result : Result
-  pub ran : (lent : List ℕ) → suc (length (l .members)) ≤ length lent
-      → Sound-run (laid-out (source .lists)) (stored .0) source (starting 0) (nexts (l .members)) (nexts (l .members)) lent result
+  pub ran : (ds : List ℕ) → length ds ≡ suc (length (l .members)) → (lent : List ℕ) → length ds ≤ length lent
+      → Sound-run (laid-out (source .lists)) (stored .0) source (starting 0) (replicate (length ds) 0) ds lent result
   pub replies : result .replies ≡ map Member (l .members) ++ (Finished ∷ [])
   pub moved : result .moves ≡ l .moves

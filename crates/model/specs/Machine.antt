@@ -1,5 +1,4 @@
--- "The plain machine": "Its state is a floor [..] and the denoted set; besides these it reads only the calls". A set is
--- the row of its members, ascending.
+-- "The plain machine": its state is a floor and the denoted set, which is here the row of its members, ascending.
 use mathlib.Core.Bool.{true, false, cond, _&&_}
 use mathlib.Core.List.{List, [], _∷_}
 use Prim.Native.Nat.{ℕ, zero, suc, max}

@@ -1,6 +1,6 @@
--- A tree stands where its row is laid: the row of an expression, with anything behind it, holds it from the node 0 on.
--- Assumes nothing.
-use mathlib.Core.Path.{_≡_, refl, sym, _∙_}
+-- A tree stands where its row is laid: the row of an expression, with anything behind it, holds it from the node 0 on. So an
+-- expression that was read over lent lists does, once for all who read one. Assumes nothing.
+use mathlib.Core.Path.{_≡_, refl, sym, ap, _∙_}
 use mathlib.Core.List.{List, [], _∷_, _++_, map}
 use Prim.Native.Nat.{ℕ, suc, _+_, _-_, _≤_, _<_}
 use native.Mathlib.Nat.{add-zero}
@@ -8,12 +8,18 @@ use native.Mathlib.Omega.{arith}
 use lib.ListN.{length, getD, replicate, length-map}
 use Rattle.model.specs.declared.Node.{Node}
 use Rattle.model.specs.declared.Node.the-variants.{Leaf, Difference, Union, Intersection}
-use Rattle.model.specs.Outcome.{accepted}
+use Rattle.model.specs.Outcome.{Outcome, refused, accepted, number-of}
+use Rattle.model.specs.Lists.{Lent}
 use Rattle.model.specs.Expression.{Tree, leaf, difference, union, intersection, Members, one, more, size, sizes, count}
-use Rattle.model.specs.Forms.{nodes, nodes-all, row-byte, row, Leaf-test}
+use Rattle.model.specs.Forms.{nodes, nodes-all, row-byte, row, Leaf-test, read-packed}
+use Rattle.model.specs.Run.{named-in}
 use Rattle.model.specs.Demands.{Named, Named-all, Expression}
+use Rattle.model.proofs.Accepted.{there-is, packed-reads}
+use Rattle.model.proofs.Told.{zero-accepts, there-told, packed-told, refused-by}
 use Rattle.model.proofs.Shape.{row-long}
 use Rattle.model.proofs.Trees.{Writable, count-pos, byte-node}
+use Rattle.expression.specs.declared.Expression as declared
+use Rattle.expression.specs.Reading.{expression-of}
 use Rattle.reader.specs.Rows.{Is, Stands, Stand-all}
 
 -- the bytes of these nodes lie in the row from the node i on
@@ -73,3 +79,33 @@ lies-first (n ∷ ns) rest = (refl, lies-further (row-byte n) (map row-byte ns +
 pub row-stands : (test : Leaf-test) (lists : ℕ) (t : Tree) → ((k : ℕ) → test k ≡ accepted tt → k < lists) → lists ≤ 32 → Expression test t → Stands lists (row t ++ replicate (48 - size t) 0) t 0
 unfolding row
 row-stands test lists t within few x = stands test lists within few (row t ++ replicate (48 - size t) 0) t 0 (omega (arith, x .nodes)) (x .named) (lies-first (nodes t) (replicate (48 - size t) 0))
+
+-- ---- what reading a packed expression over lent lists has handed back
+
+number-is : (o : Outcome Tree) {r : declared.Expression} → r ≡ expression-of o → r .number ≡ number-of o
+unfolding expression-of number-of
+number-is (refused n) e = rw e
+number-is (accepted t) e = rw e
+
+read-stands : (l : Lent) (packed : List ℕ) {r : declared.Expression} (t : Tree) → length (l .ends) ≤ 32 → read-packed (named-in l) packed ≡ accepted t
+    → r ≡ expression-of (read-packed (named-in l) packed) → Stands (length (l .ends)) (r .nodes) t 0
+unfolding expression-of
+read-stands l packed t few e f =
+    let lists : ℕ = length (l .ends) in
+    rw (f ∙ ap expression-of e) (row-stands (named-in l) lists t (there-is lists) few (packed-reads (named-in l) packed t e))
+
+-- with number 0: a tree, which stands at the first node
+pub record Read-over (l : Lent) (packed : List ℕ) (r : declared.Expression) : Type 0 where
+  pub tree : Tree
+  pub is : read-packed (named-in l) packed ≡ accepted tree
+  pub stands : Stands (length (l .ends)) (r .nodes) tree 0
+
+module _ (l : Lent) (packed : List ℕ) {r : declared.Expression} (e : r ≡ expression-of (read-packed (named-in l) packed)) where
+  pub read-over : length (l .ends) ≤ 32 → r .number ≡ 0 → Read-over l packed r
+  read-over few z =
+      let s = zero-accepts (read-packed (named-in l) packed) (packed-told (named-in l) (there-told (length (l .ends))) packed) (sym (number-is _ e) ∙ z) in
+      record { tree = s .got; is = s .is; stands = read-stands l packed (s .got) few (s .is) e }
+
+  -- with another: its refusal
+  pub refused-over : (r .number ≡ 0 → ⊥) → read-packed (named-in l) packed ≡ refused (r .number)
+  refused-over h = refused-by (read-packed (named-in l) packed) (λ z. h (number-is _ e ∙ z)) ∙ ap refused (sym (number-is _ e))

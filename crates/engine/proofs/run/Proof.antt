@@ -4,19 +4,17 @@ use mathlib.Core.Path.{_≡_, sym, ap, _∙_}
 use mathlib.Core.List.{List}
 use Prim.Native.Nat.{ℕ}
 use borrow.Author.Needs.{needs}
-use lib.ListN.{length}
 use Rattle.model.specs.declared.RunResult.{RunResult}
 use Rattle.model.specs.Outcome.{number-of, Sent}
 use Rattle.model.specs.Lists.{Lent, lend, lists-of}
 use Rattle.model.specs.Run.{starting}
-use Rattle.model.specs.Forms.{there, read-packed}
 use Rattle.model.specs.Calls.{ran, ran-refused, run-call}
 use Rattle.model.specs.Demands.{Third-demand-met}
 use Rattle.model.proofs.DemandThree.{third}
-use Rattle.model.proofs.Told.{Success-of, refused-by}
+use Rattle.model.proofs.Told.{refused-by}
 use Rattle.lists.proofs.Spans.{readable, passed as lists-passed}
-use Rattle.reader.specs.Rows.{Stands}
-use Rattle.engine.proofs.Whole.{expression-passes, read-number, read-stands, lists-few, refuses-lists, refuses-expression, refuses-bookmark, refuses-unpaired, refuses-short, accepts}
+use Rattle.reader.proofs.Laying.{Read-over, read-over, refused-over}
+use Rattle.engine.proofs.Whole.{lists-few, refuses-lists, refuses-expression, refuses-bookmark, refuses-unpaired, refuses-short, accepts}
 use Rattle.engine.proofs.run.Statement.{statement}
 use Rattle.engine.proofs.run.Tie as tie
 
@@ -31,19 +29,11 @@ lent c = let args = entry c .args in lend (args .numbers .now) (args .ends .now)
 pass : (c : tie.Else1) → number-of (lists-of (lent (c .before))) ≡ 0
 pass c = sym (c .before .test-lists .ensures) ∙ c .if1 .left
 
--- a tree was read
-read : (c : tie.Else2) → let args = entry (c .before .before .before .before) .args in Success-of (read-packed (there (length (args .ends .now))) (args .packed .now))
+-- a tree was read, and stands at the first node
+read : (c : tie.Else2) → let t = c .before .before .before .before in Read-over (lent t) (entry t .args .packed .now) (c .before .before .read-expression .result)
 read c =
     let e = c .before .before in
-    let args = entry (e .before .before) .args in
-    expression-passes (length (args .ends .now)) (args .packed .now) (sym (read-number _ (e .read-expression .ensures)) ∙ c .if2 .left)
-
--- and stands at the first node
-stands : (c : tie.Else2) → let args = entry (c .before .before .before .before) .args in Stands (length (args .ends .now)) (c .before .before .read-expression .result .nodes) (read c .got) 0
-stands c =
-    let e = c .before .before in
-    let args = entry (e .before .before) .args in
-    read-stands (length (args .ends .now)) (args .packed .now) (read c .got) (lists-few (lent (e .before .before)) (pass (e .before))) (read c .is) (e .read-expression .ensures)
+    read-over (lent (e .before .before)) _ (e .read-expression .ensures) (lists-few (lent (e .before .before)) (pass (e .before))) (c .if2 .left)
 
 -- a refusal handed back
 handed : (row : List ℕ) {r : RunResult} {n : ℕ} → r ≡ ran-refused n → ran r row ≡ ran (ran-refused n) row
@@ -86,10 +76,9 @@ returns-2 : tie.Need-returns-2
 returns-2 c =
     let e = c .before .before .before in
     let args = entry (e .before .before) .args in
-    let n = read-number _ (e .read-expression .ensures) in
     met (e .before .before) _ (
-    handed (args .replies .now) (c .refused2 .ensures ∙ ap ran-refused n)
-    ∙ refuses-expression _ _ _ _ _ _ _ (lists-passed _ (pass (e .before))) _ (refused-by (read-packed (there (length (args .ends .now))) (args .packed .now)) (λ z. c .before .if2 .taken (n ∙ z))))
+    handed (args .replies .now) (c .refused2 .ensures)
+    ∙ refuses-expression _ _ _ _ _ _ _ (lists-passed _ (pass (e .before))) _ (refused-over (lent (e .before .before)) (args .packed .now) (e .read-expression .ensures) (c .before .if2 .taken)))
 
 refused-requires-3 : tie.Need-refused-requires-3
 refused-requires-3 c κs = search needs
@@ -133,7 +122,7 @@ answer-requires c κs =
     let e = fits .before .before .before in (
       record { lists = readable (lent (e .before .before .before .before)) _ (lists-passed _ (pass (e .before .before .before))); table = c .before .before .before .node-ends .ensures },
       (
-        record { tree = read e .got; stands = stands e },
+        record { tree = read e .tree; stands = read e .stands },
         (fits .before .before .if3 .left, (fits .before .if4 .left, fits .if5 .left)),
       ),
     )
@@ -147,7 +136,7 @@ returns-6 c =
     let fits = answered .before .before .before .before .before .before .before in
     let e = fits .before .before .before in
     met (e .before .before .before .before) _ (
-    answered .answer .ensures (read e .got) (stands e)
+    answered .answer .ensures (read e .tree) (read e .stands)
     ∙ accepts _ _ _ _ _ _ _ (lists-passed _ (pass (e .before .before .before))) _ (read e .is) (fits .before .before .if3 .left) (fits .before .if4 .left) (fits .if5 .left))
 
 pub run-spec : {M : Type 1} → statement M

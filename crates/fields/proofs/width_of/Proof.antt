@@ -9,8 +9,7 @@ use lib.Pow.{pow-mono}
 use lib.Count.{leadingZeros, leading-le, leading-length}
 use Rattle.model.specs.Lists.{top}
 use Rattle.model.specs.Delivery.{width}
-use Rattle.model.specs.Demands.{Least-width}
-use Rattle.model.proofs.Deliveries.{width-is}
+use Rattle.model.proofs.Deliveries.{Least-width, width-is}
 use Rattle.fields.proofs.width_of.Statement.{statement}
 use Rattle.fields.proofs.width_of.Tie as tie
 

@@ -1,22 +1,19 @@
 -- `list_delivered` meets its contract: test by test, in the order of `Over.list-over`; the page of 4,097 places holds every member
 -- and ends with finished. Assumes nothing.
-use mathlib.Core.Path.{_≡_, refl, sym, ap, ap₂, _∙_}
+use mathlib.Core.Path.{_≡_, refl, ap, ap₂, _∙_}
 use mathlib.Core.List.{List}
 use Prim.Native.Nat.{ℕ}
 use native.Mathlib.Omega.{arith}
 use borrow.Author.Needs.{needs}
 use lib.ListN.{length, replicate, length-take}
 use Rattle.model.specs.declared.MembersResult.{MembersResult}
-use Rattle.model.specs.Lists.{lists-from}
+use Rattle.model.specs.Lists.{lists-from, lend}
 use Rattle.model.specs.Run.{begin}
 use Rattle.model.specs.Sets.{members}
-use Rattle.model.specs.Forms.{there, read-packed}
 use Rattle.model.specs.Calls.{counted, counted-refused}
-use Rattle.model.proofs.Told.{Success-of, refused-by}
 use Rattle.fields.specs.Rows.{lay}
 use Rattle.reader.proofs.Moves.{none-moved}
-use Rattle.reader.specs.Rows.{Stands}
-use Rattle.engine.proofs.Whole.{expression-passes, read-number, read-stands}
+use Rattle.reader.proofs.Laying.{Read-over, read-over, refused-over}
 use Rattle.listing.proofs.Whole.{moves-of, over-refuses, over-short, over-lists, All-drawn, draws-all}
 use Rattle.listing.proofs.list_delivered.Statement.{statement}
 use Rattle.listing.proofs.list_delivered.Tie as tie
@@ -24,19 +21,12 @@ use Rattle.listing.proofs.list_delivered.Tie as tie
 abbrev entry : tie.After-read-expression → tie.Start
 entry c = c .before .before .before .before .before
 
--- a tree was read
-read : (c : tie.Else1) → let args = entry (c .before .before) .args in Success-of (read-packed (there (length (args .ends .now))) (args .packed .now))
+-- a tree was read, and stands at the first node
+read : (c : tie.Else1) → let args = entry (c .before .before) .args in Read-over (lend (args .numbers .now) (args .ends .now)) (args .packed .now) (c .before .before .read-expression .result)
 read c =
     let e = c .before .before in
     let args = entry e .args in
-    expression-passes (length (args .ends .now)) (args .packed .now) (sym (read-number _ (e .read-expression .ensures)) ∙ c .if1 .left)
-
--- and stands at the first node
-stands : (c : tie.Else1) → let args = entry (c .before .before) .args in Stands (length (args .ends .now)) (c .before .before .read-expression .result .nodes) (read c .got) 0
-stands c =
-    let e = c .before .before in
-    let args = entry e .args in
-    read-stands (length (args .ends .now)) (args .packed .now) (read c .got) (entry e .pre .many) (read c .is) (e .read-expression .ensures)
+    read-over (lend (args .numbers .now) (args .ends .now)) (args .packed .now) (e .read-expression .ensures) (entry e .pre .many) (c .if1 .left)
 
 -- a refusal handed back
 handed : (lent : List ℕ) {r : MembersResult} {n : ℕ} → r ≡ counted-refused n → counted r lent ≡ counted (counted-refused n) lent
@@ -52,9 +42,8 @@ returns : tie.Need-returns
 returns c =
     let e = c .before .before .before in
     let args = entry e .args in
-    let n = read-number _ (e .read-expression .ensures) in
-    handed (args .members .now) (c .refused .ensures ∙ ap counted-refused n)
-    ∙ over-refuses _ _ _ _ _ (refused-by (read-packed (there (length (args .ends .now))) (args .packed .now)) (λ z. c .before .if1 .taken (n ∙ z)))
+    handed (args .members .now) (c .refused .ensures)
+    ∙ over-refuses (args .numbers .now) (args .ends .now) _ _ _ (refused-over (lend (args .numbers .now) (args .ends .now)) (args .packed .now) (e .read-expression .ensures) (c .before .if1 .taken))
 
 node-ends-requires : tie.Need-node-ends-requires
 node-ends-requires c κs = search needs
@@ -66,7 +55,7 @@ draw-page-requires : tie.Need-draw-page-requires
 draw-page-requires c κs =
     let e = c .before .before .before .before .before .before in (
       record { lists = entry (e .before .before) .pre .lists; table = c .before .before .before .node-ends .ensures },
-      (record { tree = read e .got; stands = stands e }, (omega arith, none-moved)),
+      (record { tree = read e .tree; stands = read e .stands }, (omega arith, none-moved)),
     )
 
 -- every member stands in the page
@@ -74,13 +63,13 @@ abbrev tested : tie.After-draw-page → tie.Else1
 tested c = c .before .before .before .before .before .before .before
 
 drawn : (c : tie.After-draw-page) → let args = entry (tested c .before .before) .args in
-    All-drawn (lists-from (args .numbers .now) 0 (args .ends .now)) (read (tested c) .got) (c .draw-page .result) (c .draw-page .last .1 .1 .1 .1 .1 .1 .0)
+    All-drawn (lists-from (args .numbers .now) 0 (args .ends .now)) (read (tested c) .tree) (c .draw-page .result) (c .draw-page .last .1 .1 .1 .1 .1 .1 .0)
 unfolding begin
 drawn c =
     let r = tested c .before .before in
     let e = entry r in
-    draws-all (e .args .numbers .now) (e .args .ends .now) (e .args .packed .now) (e .args .members .now) (read (tested c) .got) (read (tested c) .is)
-    (λ i. r .before .before .before .before .shared-slice-known .given i .fits) (e .pre) _ (stands (tested c)) (replicate 4097 0) refl _ _ (c .draw-page .ensures .1 (read (tested c) .got) (stands (tested c)))
+    draws-all (e .args .numbers .now) (e .args .ends .now) (e .args .packed .now) (e .args .members .now) (read (tested c) .tree) (read (tested c) .is)
+    (λ i. r .before .before .before .before .shared-slice-known .given i .fits) (e .pre) _ (read (tested c) .stands) (replicate 4097 0) refl _ _ (c .draw-page .ensures .1 (read (tested c) .tree) (read (tested c) .stands))
 
 refused-requires-2 : tie.Need-refused-requires-2
 refused-requires-2 c κs = search needs
@@ -113,7 +102,7 @@ returns-3 c =
     let args = entry (tested (p d) .before .before) .args in
     let all = drawn (p d) in
     ap₂ (λ (n m : ℕ). counted (record { number = 0; count = n; moves = m }) (c .before .before .before .copy-out .last .0)) (all .count) (all .moved)
-    ∙ ap (λ (row : List ℕ). counted (record { number = 0; count = length (members (lists-from (args .numbers .now) 0 (args .ends .now)) (read (tested (p d)) .got)); moves = moves-of (lists-from (args .numbers .now) 0 (args .ends .now)) (read (tested (p d)) .got) }) row)
+    ∙ ap (λ (row : List ℕ). counted (record { number = 0; count = length (members (lists-from (args .numbers .now) 0 (args .ends .now)) (read (tested (p d)) .tree)); moves = moves-of (lists-from (args .numbers .now) 0 (args .ends .now)) (read (tested (p d)) .tree) }) row)
     (c .before .before .before .copy-out .ensures ∙ ap (lay (args .members .now) 0) (all .holds))
     ∙ over-lists (args .numbers .now) (args .ends .now) (args .packed .now) (args .members .now) _ (read (tested (p d)) .is) (omega (arith, all .count, d .before .before .if2 .left))
 
