@@ -162,13 +162,13 @@ up-take lo zero ms u = tt
 up-take lo (suc n) [] u = tt
 up-take lo (suc n) (m ∷ ms) u = (u .0, u .1, up-take (suc m) n ms (u .2))
 
--- each member lifts the floor behind it by 1 or more
+-- each member stands 1 or more above the one before it
 behind-up : (lo : ℕ) (ms : List ℕ) → Up lo ms → lo ≤ top → (lo + length ms ≤ behind lo ms) × (behind lo ms ≤ top)
 unfolding behind
 behind-up lo [] u h = (omega arith, h)
 behind-up lo (m ∷ ms) u h = let q = behind-up (suc m) ms (u .2) (omega (arith, u .1)) in (omega (arith, u .0, q .0), q .1)
 
--- at or above one floor and not above another
+-- at or above f and not at or above g is at or above f and below g
 sides : (x f g : ℕ) (m : Bool) → (leb f x && m) && not (leb g x && m) ≡ leb f x && (ltb x g && m)
 sides x f g m =
     split ((leb f x && m) && not (leb g x && m) ≡ leb f x && (ltb x g && m)) x g (λ lt. rw (lt-leb g x lt, lt-ltb x g lt) (below (leb f x) m))
@@ -226,7 +226,7 @@ module _ (ls : List (List ℕ)) (t : Tree) where
         ∙ ap₂ (λ (i j : Bool). i && not j) (members-from-are ls (b .up) t (s .floor) x) (ap (among x) (sym (d .left)) ∙ members-from-are ls (b .up) t (page ls t s n .1 .floor) x)
         ∙ sides x (s .floor) (page ls t s n .1 .floor) (member ls t x)
 
-    -- the floor rises by as much as there are members, or more: so much for what counts them, and for what goes on until finished
+    -- each member raises the floor by 1 or more: a bound for what counts them, and a measure for what goes on until finished
     pub page-rises : s .floor + length (page ls t s n .0) ≤ page ls t s n .1 .floor
     page-rises = go (page ls t s n .2) refl
       where
