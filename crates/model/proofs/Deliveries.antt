@@ -70,7 +70,7 @@ gaps-up w (suc n) last bs r e =
     let q : (x ∷ c .got .0, c .got .1) ≡ r = cc (c .rest) in
     rw (← q) (omega arith, ltb-true x top (b .0), gaps-up w n x (a .got .1) (c .got) (c .first))
 
--- ---- what reads was written
+-- ---- the numbers of a list: what reads was written
 
 gaps-was : (w n last : ℕ) (bs : List Bool) (r : List ℕ × List Bool) → read-gaps take-field w n last bs ≡ accepted r → (bs ≡ gap-bits w last (r .0) ++ r .1) × (length (r .0) ≡ n)
 unfolding read-gaps gap-bits
@@ -126,7 +126,7 @@ body-was (suc (suc n)) bs r e =
       up = (omega arith, field-lt 32 bs (a .got) (a .first), gaps-up (less + 1) (suc n) x (b .got .1) (c .got) (c .first));
     })
 
--- ---- what is written reads back
+-- ---- the numbers of a list: what is written reads back
 
 -- each gap minus 1 fits the width
 abbrev Gaps-fit : ℕ → ℕ → List ℕ → Type 0
@@ -382,6 +382,7 @@ module _ {A : Type 0} (form : Form A) (heads : Reads-back form) where
 
 -- ---- this paper's form
 
+-- lists that its delivery can hold
 abbrev pub Storable : List (List ℕ) → Type 0
 Storable ls = All-storable counted ls
 
