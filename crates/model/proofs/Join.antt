@@ -174,10 +174,6 @@ module _ (ls : List (List ℕ)) (t : Tree) (s : State) (b : Between ls t s) wher
   pub floor-low : s .floor ≤ top
   floor-low = b .ok .low
 
-  -- after any calls it is such a state again
-  pub calls-between : (cs : List Call) → All-small cs → Between ls t (steps ls t s cs .1)
-  calls-between cs h = record { up = b .up; ok = all-joined ls (b .up) t cs h s (b .ok) .ok }
-
   pub draws-next : Next-drawn ls t (members-from ls t (s .floor)) (step ls t s next)
   unfolding reply
   draws-next =

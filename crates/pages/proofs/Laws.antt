@@ -82,16 +82,7 @@ module _ (ls : List (List ℕ)) (t : Tree) where
       go (end rs) ih = refl
       go (at x rs) ih = let after : State = record { floor = suc x; readers = rs } in further x (page ls t after n) (page ls t after (n + m)) (ih after)
 
-  -- it has at most so many members, and exactly so many where it did not end with finished
-  pub page-few : (n : ℕ) (s : State) → length (page ls t s n .0) ≤ n
-  unfolding page go-on step drawn
-  page-few zero s = omega arith
-  page-few (suc n) s = go (seek ls t 0 (s .floor) (s .readers)) (page-few n)
-    where
-      go : (f : Found) → ((s : State) → length (page ls t s n .0) ≤ n) → length (go-on (λ s. page ls t s n) (drawn f) .0) ≤ suc n
-      go (end rs) ih = omega arith
-      go (at x rs) ih = omega (arith, ih (record { floor = suc x; readers = rs }))
-
+  -- it is full where it did not end with finished
   pub page-full : (n : ℕ) (s : State) → page ls t s n .2 ≡ false → length (page ls t s n .0) ≡ n
   unfolding page go-on step drawn
   page-full zero s h = refl
