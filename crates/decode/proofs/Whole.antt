@@ -12,9 +12,9 @@ use Rattle.model.specs.Outcome.{Outcome, refused, accepted, _>>=_, _>>_, requir
 use Rattle.model.specs.Lists.{count-holds}
 use Rattle.model.specs.Sets.{all-numbers}
 use Rattle.model.specs.Fields.{bits, take-field, only-fill}
-use Rattle.model.specs.Delivery.{counted, read-in, read-delivery}
+use Rattle.model.specs.Delivery.{by-count, read-in, read-delivery}
 use Rattle.model.specs.Calls.{delivered, ends-from, decode-delivery}
-use Rattle.model.proofs.Sources.{seen, lists-seen, counted-seen}
+use Rattle.model.proofs.Sources.{seen, lists-seen, by-count-seen}
 use Rattle.fields.specs.Rows.{lay}
 use Rattle.fields.specs.Positions.{take-at}
 use Rattle.fields.proofs.Fields.{taken-there}
@@ -46,7 +46,7 @@ module _ (s : List ℕ) (numbers-room ends-room : ℕ) where
         → read-delivery numbers-room ends-room s ≡ (o >>= λ r. (require 5 (only-fill (from (r .1))) >> accepted (r .0)))
     unfolding read-delivery read-in seen
     reads-on h l {o} f =
-        rw (number-read, h, le-leb n ends-room l, lists-seen from (take-at s) take-field taken-there-all counted (counted-seen from (take-at s) take-field taken-there-all) n (some numbers-room) p, f) (turned o)
+        rw (number-read, h, le-leb n ends-room l, lists-seen from (take-at s) take-field taken-there-all by-count (by-count-seen from (take-at s) take-field taken-there-all) n (some numbers-room) p, f) (turned o)
       where
         taken-there-all : (w q : ℕ) → take-field w (from q) ≡ seen from (take-at s w q)
         taken-there-all w q = taken-there s w q

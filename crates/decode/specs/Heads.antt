@@ -7,7 +7,7 @@ use lib.Dec.{ltb, leb}
 use Rattle.model.specs.Outcome.{Outcome, accepted, _>>=_, _>>_, require}
 use Rattle.model.specs.Lists.{top}
 use Rattle.model.specs.Delivery
-use Rattle.model.specs.Delivery.{counted}
+use Rattle.model.specs.Delivery.{by-count}
 
 -- what stands before the gaps of a list: its count, its first number (0 if it has none), the width of its gaps (0 if it
 -- has none)
@@ -19,10 +19,10 @@ pub record Header : Type 0 where
 module _ {S : Type 0} (take-bits : ℕ → S → Outcome (ℕ × S)) where
   -- one list, and so many lists, with so much room for their numbers
   abbrev pub read-list : ℕ → S → Outcome (List ℕ × S)
-  read-list room source = Delivery.read-list take-bits counted (some room) source
+  read-list room source = Delivery.read-list take-bits by-count (some room) source
 
   abbrev pub read-lists : ℕ → ℕ → S → Outcome (List (List ℕ) × S)
-  read-lists n room source = Delivery.read-lists take-bits counted n (some room) source
+  read-lists n room source = Delivery.read-lists take-bits by-count n (some room) source
 
   -- "if 2 or more, 5 bits of width minus 1": of n numbers behind the first
   unfoldable pub header-width : ℕ → ℕ → S → Outcome (Header × S)
@@ -41,7 +41,7 @@ module _ {S : Type 0} (take-bits : ℕ → S → Outcome (ℕ × S)) where
   -- what the form has ahead of a list's numbers, and "6 for the numbers once its count is read"
   unfoldable pub header : ℕ → S → Outcome (Header × S)
   header room source = do
-    ((count, _), rest) ← counted .take-head take-bits source
+    ((count, _), rest) ← by-count .take-head take-bits source
     require 6 (leb count room)
     header-first count rest
 

@@ -13,7 +13,7 @@ use Rattle.model.specs.Outcome.{accepted}
 use Rattle.model.specs.Lists.{top, Numbers, rises, ascending}
 use Rattle.model.specs.Fields.{field}
 use Rattle.model.specs.Delivery
-use Rattle.model.specs.Delivery.{largest-gap, width, gap-bits, body-bits, counted, list-size}
+use Rattle.model.specs.Delivery.{largest-gap, width, gap-bits, body-bits, by-count, list-size}
 use Rattle.model.proofs.Order.{and-true}
 use Rattle.model.proofs.Accepted.{required, accepted-same}
 use Rattle.model.proofs.Bits.{field-length}
@@ -83,7 +83,7 @@ width-same [] = refl
 width-same (x ∷ l) = refl
 
 pub list-size-is : (l : List ℕ) → length (list-bits l) ≡ list-size 16 (length l) (gap-width l)
-list-size-is l = size-is counted l ∙ ap₂ (λ (head w : ℕ). list-size head (length l) w) (field-length 16 (length l)) (width-same l)
+list-size-is l = size-is by-count l ∙ ap₂ (λ (head w : ℕ). list-size head (length l) w) (field-length 16 (length l)) (width-same l)
 
 pub size-small : (n w : ℕ) → n ≤ 65535 → w ≤ 32 → list-size 16 n w ≤ 4194304
 unfolding list-size

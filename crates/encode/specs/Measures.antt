@@ -5,14 +5,14 @@ use Prim.Native.Nat.{ℕ}
 use lib.ListN.{length, replicate}
 use Rattle.model.specs.Lists.{all-ascending}
 use Rattle.model.specs.Delivery
-use Rattle.model.specs.Delivery.{width, counted}
+use Rattle.model.specs.Delivery.{width, by-count}
 use Rattle.lists.specs.Rise.{largest}
 use Rattle.fields.specs.Rows.{lay}
 use Rattle.encode.specs.declared.Measure.{Measure}
 
 -- the form of the delivery that is written here: a list, and lists one behind the other
 abbrev pub list-bits : List ℕ → List Bool
-list-bits l = Delivery.list-bits counted l
+list-bits l = Delivery.list-bits by-count l
 
 abbrev pub lists-bits : List (List ℕ) → List Bool
 lists-bits ls = flatMap list-bits ls

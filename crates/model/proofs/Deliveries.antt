@@ -15,7 +15,7 @@ use Rattle.model.specs.Outcome.{accepted}
 use Rattle.model.specs.Lists.{top, count-holds}
 use Rattle.model.specs.Sets.{all-numbers}
 use Rattle.model.specs.Fields.{Bytes, field, bits, take-field, only-fill}
-use Rattle.model.specs.Delivery.{largest-gap, width-from, width, gap-bits, body-bits, Form, counted, list-bits, delivery-in, read-gaps, read-body, read-list, read-lists, read-in, delivery, read-delivery, read-stored}
+use Rattle.model.specs.Delivery.{largest-gap, width-from, width, gap-bits, body-bits, Form, by-count, list-bits, delivery-in, read-gaps, read-body, read-list, read-lists, read-in, delivery, read-delivery, read-stored}
 use Rattle.model.proofs.Order.{and-true, split, Up}
 use Rattle.model.proofs.Accepted.{accepted-same, bound, required, field-lt}
 use Rattle.model.proofs.Bits.{taken, was-field, filled, fill-only, bytes-are}
@@ -188,13 +188,13 @@ pub record Reads-back {A : Type 0} (form : Form A) : Type 0 where
   pub back : (a : A) (rest : List Bool) → length (form .numbers-of a) ≤ 65535 → Head-back form a rest
   pub was : (bs : List Bool) (count : ℕ) (made : List ℕ → A) (rest : List Bool) → form .take-head take-field bs ≡ accepted ((count, made), rest) → Head-was form bs count made rest
 
-pub counted-reads-back : Reads-back counted
-counted-reads-back = record {
+pub by-count-reads-back : Reads-back by-count
+by-count-reads-back = record {
   back = λ l rest h. record { made = λ xs. xs; taken-off = rw (taken 16 (length l) rest (omega arith)) refl; again = refl };
   was = λ bs count made rest e.
       let a = bound (take-field 16 bs) _ ((count, made), rest) e in
       let q : _≡_ {A = (ℕ × (List ℕ → List ℕ)) × List Bool} ((a .got .0, λ xs. xs), a .got .1) ((count, made), rest) = accepted-same (a .rest) in
-      subst (λ (r : (ℕ × (List ℕ → List ℕ)) × List Bool). Head-was counted bs (r .0 .0) (r .0 .1) (r .1)) q (record {
+      subst (λ (r : (ℕ × (List ℕ → List ℕ)) × List Bool). Head-was by-count bs (r .0 .0) (r .0 .1) (r .1)) q (record {
         few = omega (arith, field-lt 16 bs (a .got) (a .first));
         written = λ xs h. was-field 16 bs (a .got) (a .first) ∙ ap (λ (k : ℕ). field 16 k ++ a .got .1) (sym h);
         numbers = λ xs h. refl;
@@ -384,14 +384,14 @@ module _ {A : Type 0} (form : Form A) (heads : Reads-back form) where
 
 -- lists that its delivery can hold
 abbrev pub Storable : List (List ℕ) → Type 0
-Storable ls = All-storable counted ls
+Storable ls = All-storable by-count ls
 
 pub storable-up : (ls : List (List ℕ)) → Storable ls → (k : ℕ) → Up 0 (getD ls k [])
 storable-up [] s k = tt
 storable-up (l ∷ ls) s zero = s .0 .0
 storable-up (l ∷ ls) s (suc k) = storable-up ls (s .1) k
 
-total-is : (ls : List (List ℕ)) → total counted ls ≡ length (all-numbers ls)
+total-is : (ls : List (List ℕ)) → total by-count ls ≡ length (all-numbers ls)
 unfolding total all-numbers
 total-is [] = refl
 total-is (l ∷ ls) = omega (arith, length-append l (all-numbers ls), total-is ls)
@@ -399,7 +399,7 @@ total-is (l ∷ ls) = omega (arith, length-append l (all-numbers ls), total-is l
 -- bytes that read are written back the same
 pub delivery-same : (numbers-room ends-room : ℕ) (bs : List ℕ) (ls : List (List ℕ)) → Bytes bs → read-delivery numbers-room ends-room bs ≡ accepted ls → delivery ls ≡ bs
 unfolding read-delivery delivery
-delivery-same numbers-room ends-room bs ls h e = form-same counted counted-reads-back (some numbers-room) (some ends-room) bs ls h e
+delivery-same numbers-room ends-room bs ls h e = form-same by-count by-count-reads-back (some numbers-room) (some ends-room) bs ls h e
 
 pub record Delivered (numbers-room ends-room : ℕ) (ls : List (List ℕ)) : Type 0 where
   pub count : count-holds (length ls) ≡ true
@@ -411,12 +411,12 @@ pub record Delivered (numbers-room ends-room : ℕ) (ls : List (List ℕ)) : Typ
 pub delivery-holds : (numbers-room ends-room : ℕ) (bs : List ℕ) (ls : List (List ℕ)) → read-delivery numbers-room ends-room bs ≡ accepted ls → Delivered numbers-room ends-room ls
 unfolding read-delivery
 delivery-holds numbers-room ends-room bs ls e =
-    let h = reads counted counted-reads-back (some numbers-room) (some ends-room) bs ls e .held in
-    record { count = h .count; storable = h .storable; numbers = omega (arith, total-is ls, leb-true (total counted ls) numbers-room (h .numbers)); ends = leb-true (length ls) ends-room (h .ends) }
+    let h = reads by-count by-count-reads-back (some numbers-room) (some ends-room) bs ls e .held in
+    record { count = h .count; storable = h .storable; numbers = omega (arith, total-is ls, leb-true (total by-count ls) numbers-room (h .numbers)); ends = leb-true (length ls) ends-room (h .ends) }
 
 -- room for the numbers and for the ends
-room-fits : (numbers-room : ℕ) (ls : List (List ℕ)) → length (all-numbers ls) ≤ numbers-room → fits (total counted ls) (some numbers-room) ≡ true
-room-fits numbers-room ls h = le-leb (total counted ls) numbers-room (omega (arith, total-is ls))
+room-fits : (numbers-room : ℕ) (ls : List (List ℕ)) → length (all-numbers ls) ≤ numbers-room → fits (total by-count ls) (some numbers-room) ≡ true
+room-fits numbers-room ls h = le-leb (total by-count ls) numbers-room (omega (arith, total-is ls))
 
 ends-fit : (ends-room n : ℕ) → n ≤ ends-room → fits n (some ends-room) ≡ true
 ends-fit ends-room n h = le-leb n ends-room h
@@ -426,13 +426,13 @@ pub delivery-written : (numbers-room ends-room : ℕ) (ls : List (List ℕ)) →
     → read-delivery numbers-room ends-room (delivery ls) ≡ accepted ls
 unfolding read-delivery delivery
 delivery-written numbers-room ends-room ls c s h₁ h₂ =
-    form-written counted counted-reads-back (some numbers-room) (some ends-room) ls (record { count = c; storable = s; numbers = room-fits numbers-room ls h₁; ends = ends-fit ends-room (length ls) h₂ })
+    form-written by-count by-count-reads-back (some numbers-room) (some ends-room) ls (record { count = c; storable = s; numbers = room-fits numbers-room ls h₁; ends = ends-fit ends-room (length ls) h₂ })
 
 -- what is accepted with room is accepted with no row lent; and the other way round, where there is room for it
-pub stored-too : (numbers-room ends-room : ℕ) (bs : List ℕ) (ls : List (List ℕ)) → read-delivery numbers-room ends-room bs ≡ accepted ls → read-stored counted bs ≡ accepted ls
+pub stored-too : (numbers-room ends-room : ℕ) (bs : List ℕ) (ls : List (List ℕ)) → read-delivery numbers-room ends-room bs ≡ accepted ls → read-stored by-count bs ≡ accepted ls
 unfolding read-delivery read-stored
-stored-too numbers-room ends-room bs ls e = form-room counted counted-reads-back (some numbers-room) (some ends-room) none none bs ls e refl refl
+stored-too numbers-room ends-room bs ls e = form-room by-count by-count-reads-back (some numbers-room) (some ends-room) none none bs ls e refl refl
 
-pub stored-fits : (numbers-room ends-room : ℕ) (bs : List ℕ) (ls : List (List ℕ)) → read-stored counted bs ≡ accepted ls → length (all-numbers ls) ≤ numbers-room → length ls ≤ ends-room → read-delivery numbers-room ends-room bs ≡ accepted ls
+pub stored-fits : (numbers-room ends-room : ℕ) (bs : List ℕ) (ls : List (List ℕ)) → read-stored by-count bs ≡ accepted ls → length (all-numbers ls) ≤ numbers-room → length ls ≤ ends-room → read-delivery numbers-room ends-room bs ≡ accepted ls
 unfolding read-delivery read-stored
-stored-fits numbers-room ends-room bs ls e h₁ h₂ = form-room counted counted-reads-back none none (some numbers-room) (some ends-room) bs ls e (room-fits numbers-room ls h₁) (ends-fit ends-room (length ls) h₂)
+stored-fits numbers-room ends-room bs ls e h₁ h₂ = form-room by-count by-count-reads-back none none (some numbers-room) (some ends-room) bs ls e (room-fits numbers-room ls h₁) (ends-fit ends-room (length ls) h₂)

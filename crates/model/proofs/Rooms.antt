@@ -11,7 +11,7 @@ use lib.ListN.{length}
 use Rattle.model.specs.Outcome.{Outcome, refused, accepted, _>>=_, _>>_, require}
 use Rattle.model.specs.Lists.{top, count-holds}
 use Rattle.model.specs.Fields.{bits, take-field, only-fill}
-use Rattle.model.specs.Delivery.{largest-gap, width, Form, counted, read-gaps, read-body, read-list, read-lists, read-in, read-stored, read-delivery}
+use Rattle.model.specs.Delivery.{largest-gap, width, Form, by-count, read-gaps, read-body, read-list, read-lists, read-in, read-stored, read-delivery}
 use Rattle.model.proofs.Accepted.{never-accepted}
 
 refused-same : {A : Type 0} {n m : ℕ} → _≡_ {A = Outcome A} (refused n) (refused m) → n ≡ m
@@ -104,14 +104,14 @@ module _ {A : Type 0} (form : Form A) (head-not : (bs : List Bool) → Not-6 (fo
   stored-not-6 bs = not-then (take-field 6 (bits bs)) _ (field-not 6 (bits bs)) (λ r. not-test 7 (count-holds (r .0)) _ (λ e. omega arith) (
       not-then (read-lists take-field form (r .0) none (r .1)) _ (lists-not (r .0) (r .1)) (λ q. not-test 5 (only-fill (q .1)) _ (λ e. omega arith) right-not)))
 
-pub counted-not : (bs : List Bool) → Not-6 (counted .take-head take-field bs)
-counted-not bs = not-then (take-field 16 bs) _ (field-not 16 bs) (λ r. right-not)
+pub by-count-not : (bs : List Bool) → Not-6 (by-count .take-head take-field bs)
+by-count-not bs = not-then (take-field 16 bs) _ (field-not 16 bs) (λ r. right-not)
 
 -- ---- this paper's form
 
-pub delivery-only-6 : (numbers-room ends-room : ℕ) (bs : List ℕ) → Not-6 (read-delivery numbers-room ends-room bs) → read-stored counted bs ≡ read-delivery numbers-room ends-room bs
+pub delivery-only-6 : (numbers-room ends-room : ℕ) (bs : List ℕ) → Not-6 (read-delivery numbers-room ends-room bs) → read-stored by-count bs ≡ read-delivery numbers-room ends-room bs
 unfolding read-delivery
-delivery-only-6 numbers-room ends-room bs = room-only-6 counted (some numbers-room) (some ends-room) bs
+delivery-only-6 numbers-room ends-room bs = room-only-6 by-count (some numbers-room) (some ends-room) bs
 
-pub delivery-not-6 : (bs : List ℕ) → Not-6 (read-stored counted bs)
-delivery-not-6 bs = stored-not-6 counted counted-not bs
+pub delivery-not-6 : (bs : List ℕ) → Not-6 (read-stored by-count bs)
+delivery-not-6 bs = stored-not-6 by-count by-count-not bs

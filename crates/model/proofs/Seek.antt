@@ -6,7 +6,7 @@ use mathlib.Core.List.{List, [], _∷_}
 use Prim.Native.Nat.{ℕ, zero, suc, _+_, _≤_, _<_, min}
 use native.Mathlib.Omega.{arith}
 use lib.Dec.{ltb, eqb}
-use borrow.Author.Tests.{ltb-true, ltb-false, eqb-true, eqb-false, ne-eqb, eq-eqb}
+use borrow.Author.Tests.{le-leb, ltb-true, ltb-false, eqb-true, eqb-false, eq-eqb}
 use lib.ListN.{getD, set, drop, length, length-set}
 use lib.Seq.{drop-nil, getD-set-same, getD-set-other, drop-drop}
 use Rattle.model.specs.Lists.{top}
@@ -14,6 +14,7 @@ use Rattle.model.specs.Expression.{Tree, leaf, difference, union, inters
 use Rattle.model.specs.Sets.{among}
 use Rattle.model.specs.Steps.{Readers, Found, end, at, Seek, on, passed, moves-to, answer, read, fuel, differ, unite, follow, intersect, seek, seek-union, seek-intersection, seek-rest}
 use Rattle.model.proofs.Order.{or-right, and-right, split, min-case, Up, up-drop, up-none}
+use Rattle.model.proofs.Denoted.{from, from-up, from-among}
 use Rattle.model.proofs.Residual.{Set, Local, After, None, Least, Sought, Seeks, Passed, Passes, sought-passed, sought-wide, passed-wide, again, left-of, residual, residual-some, residual-all, residual-local, some-local, all-local}
 
 pub fuel-is : fuel ≡ 4294967297
@@ -266,22 +267,14 @@ unfolding passed
 passed-off y ys e h = rw (h, passed)
 
 -- the moves to e over an ascending list leave what is at or above e, and nothing below
-passed-above : (l : List ℕ) (e x : ℕ) → e ≤ x → among x (drop (passed l e) l) ≡ among x l
-unfolding among
-passed-above [] e x h = rw (drop-nil)
-passed-above (y ∷ ys) e x h = go (ltb y e) refl (passed-above ys e x h)
+passed-from : (l : List ℕ) (e : ℕ) → drop (passed l e) l ≡ from e l
+unfolding from
+passed-from [] e = drop-nil (passed [] e)
+passed-from (y ∷ ys) e = go (ltb y e) refl (passed-from ys e)
   where
-    go : (b : Bool) → ltb y e ≡ b → among x (drop (passed ys e) ys) ≡ among x ys → among x (drop (passed (y ∷ ys) e) (y ∷ ys)) ≡ among x (y ∷ ys)
-    go true q ih = rw (passed-on y ys e q) (cc (ih, ne-eqb x y (λ r. omega (arith, ltb-true y e q))))
-    go false q ih = rw (passed-off y ys e q)
-
-passed-up : (l : List ℕ) (e lo : ℕ) → Up lo l → Up e (drop (passed l e) l)
-passed-up [] e lo u = rw (drop-nil) tt
-passed-up (y ∷ ys) e lo u = go (ltb y e) refl (passed-up ys e (suc y) (u .2))
-  where
-    go : (b : Bool) → ltb y e ≡ b → Up e (drop (passed ys e) ys) → Up e (drop (passed (y ∷ ys) e) (y ∷ ys))
+    go : (b : Bool) → ltb y e ≡ b → drop (passed ys e) ys ≡ from e ys → drop (passed (y ∷ ys) e) (y ∷ ys) ≡ elim b [ true ↦ from e ys | false ↦ y ∷ ys ]
     go true q ih = rw (passed-on y ys e q) ih
-    go false q ih = rw (passed-off y ys e q) (ltb-false y e q, u .1, u .2)
+    go false q ih = rw (passed-off y ys e q) refl
 
 pub read-seek : (l : List ℕ) (i : ℕ) → Up 0 l → Seeks i (suc i) (left-of l i) (read l i)
 unfolding read answer among
@@ -296,14 +289,14 @@ read-seek l i u e rs et il = go (drop p l) refl
     p : ℕ
     p = p₀ + passed (drop p₀ l) e
 
-    rest : drop p l ≡ drop (passed (drop p₀ l) e) (drop p₀ l)
-    rest = sym (drop-drop (passed (drop p₀ l) e) p₀ l)
+    rest : drop p l ≡ from e (drop p₀ l)
+    rest = sym (drop-drop (passed (drop p₀ l) e) p₀ l) ∙ passed-from (drop p₀ l) e
 
     up : Up e (drop p l)
-    up = rw rest (passed-up (drop p₀ l) e 0 (up-drop 0 p₀ l u))
+    up = rw rest (from-up e 0 (drop p₀ l) (up-drop 0 p₀ l u))
 
     above : (x : ℕ) → e ≤ x → among x (drop p l) ≡ left-of l i ps x
-    above x h = rw rest (passed-above (drop p₀ l) e x h)
+    above x h = rw rest (cc (from-among e 0 (drop p₀ l) (up-drop 0 p₀ l u) x, le-leb e x h))
 
     now : (x : ℕ) → left-of l i (set ps i p) x ≡ among x (drop p l)
     now x = rw (getD-set-same ps i p 0)

@@ -14,7 +14,7 @@ use Rattle.model.specs.Outcome.{Outcome, refused, accepted, _>>=_, _>>_,
 use Rattle.model.specs.Lists.{top}
 use Rattle.model.specs.Expression.{Tree, union, intersection, Members, one}
 use Rattle.model.specs.Forms.{take-rest, take-kind, take-node, Leaf-test, read-members, operator, read-below, read-tree}
-use Rattle.model.specs.Delivery.{largest-gap, width, read-gaps, read-body, Form, counted, read-list, read-lists}
+use Rattle.model.specs.Delivery.{largest-gap, width, read-gaps, read-body, Form, by-count, read-list, read-lists}
 
 module _ {S T : Type 0} (see : S → T) where
   -- what was taken off the first source, with its place seen in the second
@@ -104,9 +104,9 @@ module _ {S T : Type 0} (see : S → T) (take-bits₁ : ℕ → S → Outcome (�
         let left : Option ℕ = Option·map (λ k. k - length (form .numbers-of l)) room in
         then see (read-lists take-bits₁ form n left r) _ _ (lists-seen n left r) (λ ls q. refl))
 
-  pub counted-seen : (s : S) → counted .take-head take-bits₂ (see s) ≡ seen see (counted .take-head take-bits₁ s)
+  pub by-count-seen : (s : S) → by-count .take-head take-bits₂ (see s) ≡ seen see (by-count .take-head take-bits₁ s)
   unfolding seen
-  counted-seen s = then see (take-bits₁ 16 s) _ _ (alike 16 s) (λ count r. refl)
+  by-count-seen s = then see (take-bits₁ 16 s) _ _ (alike 16 s) (λ count r. refl)
 
 -- sources off which nodes are taken alike
 module _ {S T : Type 0} (see : S → T) (test : Leaf-test) (take-one₁ : S → Outcome (Node × S)) (take-one₂ : T → Outcome (Node × T))

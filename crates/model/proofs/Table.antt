@@ -21,7 +21,7 @@ use Rattle.model.specs.Fields
 use Rattle.model.specs.Forms
 use Rattle.model.specs.Forms.{row, packed, there, read-row, read-packed}
 use Rattle.model.specs.Delivery
-use Rattle.model.specs.Delivery.{counted, read-stored, delivery, read-delivery}
+use Rattle.model.specs.Delivery.{by-count, read-stored, delivery, read-delivery}
 use Rattle.model.specs.Calls.{unpack-expression, pack-expression, decode-delivery, encode-delivery, run-size, run-call, ends-from}
 use Rattle.model.specs.Program.{halves, listing-of, listing, listed, list-members}
 
@@ -493,7 +493,7 @@ unfolding computes
 order-deliveries = refl
 
 -- where no row is lent: P9, and what with rows is 6, once the count is read, is 1 here
-pub order-stored : read-stored counted (0x04 ∷ 0x00 ∷ 0x0C ∷ []) ∷ map (λ d. read-stored counted (d .0)) deliveries ≡ refused 1 ∷ map (λ d. accepted (d .1)) deliveries
+pub order-stored : read-stored by-count (0x04 ∷ 0x00 ∷ 0x0C ∷ []) ∷ map (λ d. read-stored by-count (d .0)) deliveries ≡ refused 1 ∷ map (λ d. accepted (d .1)) deliveries
 unfolding computes
 order-stored = refl
 

@@ -15,7 +15,7 @@ use Rattle.model.specs.Expression.{Tree}
 use Rattle.model.specs.Fields.{bits, take-field, only-fill}
 use Rattle.model.specs.Forms.{node-of, take-byte, take-rest, take-kind, take-node, Leaf-test, there, read-members, operator, read-below, read-tree, read-row, read-packed}
 use Rattle.model.proofs.Accepted.{never-accepted}
-use Rattle.model.specs.Delivery.{largest-gap, width, read-gaps, read-body, Form, counted, read-list, read-lists, read-in, read-delivery}
+use Rattle.model.specs.Delivery.{largest-gap, width, read-gaps, read-body, Form, by-count, read-list, read-lists, read-in, read-delivery}
 
 pub record Told {A : Type 0} (o : Outcome A) : Type 0 where
   pub never : (n : ℕ) → o ≡ refused n → 1 ≤ n
@@ -167,9 +167,9 @@ module _ {A : Type 0} (form : Form A) (head-told : (bs : List Bool) → Told (fo
       told-then (take-field 6 (bits bs)) _ (field-told 6 (bits bs)) (λ r. told-test 7 (count-holds (r .0)) _ (omega arith) (told-test 6 (elim ends-room [ none ↦ true | some k ↦ leb (r .0) k ]) _ (omega arith)
       (told-then (read-lists take-field form (r .0) numbers-room (r .1)) _ (lists-read-told (r .0) numbers-room (r .1)) (λ q. told-test 5 (only-fill (q .1)) _ (omega arith) told-right))))
 
-counted-told : (bs : List Bool) → Told (counted .take-head take-field bs)
-counted-told bs = told-then (take-field 16 bs) _ (field-told 16 bs) (λ r. told-right)
+by-count-told : (bs : List Bool) → Told (by-count .take-head take-field bs)
+by-count-told bs = told-then (take-field 16 bs) _ (field-told 16 bs) (λ r. told-right)
 
 pub delivery-told : (numbers-room ends-room : ℕ) (bs : List ℕ) → Told (read-delivery numbers-room ends-room bs)
 unfolding read-delivery
-delivery-told numbers-room ends-room bs = form-told counted counted-told (some numbers-room) (some ends-room) bs
+delivery-told numbers-room ends-room bs = form-told by-count by-count-told (some numbers-room) (some ends-room) bs

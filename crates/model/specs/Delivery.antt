@@ -41,8 +41,8 @@ pub record Form (A : Type 0) : Type 1 where
   pub take-head : {S : Type 0} → (ℕ → S → Outcome (ℕ × S)) → S → Outcome ((ℕ × (List ℕ → A)) × S)
 
 -- "Each list: 16 bits of count"
-abbrev pub counted : Form (List ℕ)
-counted = record { numbers-of = λ l. l; head-bits = λ l. field 16 (length l); take-head = λ take-bits source. take-bits 16 source >>= λ (count, rest). accepted ((count, λ l. l), rest) }
+abbrev pub by-count : Form (List ℕ)
+by-count = record { numbers-of = λ l. l; head-bits = λ l. field 16 (length l); take-head = λ take-bits source. take-bits 16 source >>= λ (count, rest). accepted ((count, λ l. l), rest) }
 
 -- a list, written
 unfoldable pub list-bits : {A : Type 0} → Form A → A → List Bool
@@ -110,7 +110,7 @@ read-stored form bs = read-in form none none bs
 
 -- this paper's form, written and read
 unfoldable pub delivery : List (List ℕ) → List ℕ
-delivery ls = delivery-in counted ls
+delivery ls = delivery-in by-count ls
 
 unfoldable pub read-delivery : ℕ → ℕ → List ℕ → Outcome (List (List ℕ))
-read-delivery numbers-room ends-room bs = read-in counted (some numbers-room) (some ends-room) bs
+read-delivery numbers-room ends-room bs = read-in by-count (some numbers-room) (some ends-room) bs

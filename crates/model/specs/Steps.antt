@@ -32,14 +32,14 @@ unfoldable pub passed : List ℕ → ℕ → ℕ
 passed [] e = 0
 passed (x ∷ xs) e = elim (ltb x e) [ true ↦ suc (passed xs e) | false ↦ 0 ]
 
+-- how many moves that counts: "A move adds 1 to a place"
+unfoldable pub moves-to : List ℕ → ℕ → ℕ
+moves-to left e = passed left e
+
 -- "At the list's end it is finished, else it answers the number"
 unfoldable pub answer : List ℕ → Readers → Found
 answer [] rs = end rs
 answer (x ∷ xs) rs = at x rs
-
--- "A move adds 1 to a place": how many moves that counts
-unfoldable pub moves-to : List ℕ → ℕ → ℕ
-moves-to left e = passed left e
 
 -- A3(1), the reader of the node i over the list l
 unfoldable pub read : List ℕ → ℕ → Seek
