@@ -3,10 +3,12 @@
  * In samples/console the lists are team, partners, held and withdrawn, and the expression says "(team or partners) and held, but
  * not withdrawn".
  *
- *     target/console [FILE]       (without FILE: samples/console)
+ *     target/console [FILE [LIST NUMBER]]       (without FILE: samples/console)
  *
- * The exit status is 0 if every member was printed, else 1, and standard error says why.
+ * With LIST and NUMBER that number is then added to that list, and the members are kept current: over samples/console `3 101`
+ * withdraws 101. The exit status is 0 if every member was printed, else 1, and standard error says why.
  */
+#include <errno.h>
 #include <inttypes.h>
 #include <stdint.h>
 #include <stdio.h>
@@ -29,6 +31,8 @@ struct question {
 static uint8_t input[INPUT + 1];
 static uint32_t numbers[NUMBERS];
 static uint32_t ends[ZWAILMOOR_LISTS];
+/* What is shown: each member is one of the numbers. */
+static uint32_t members[NUMBERS];
 
 #define REFUSAL(name, sentence) {ZWAILMOOR_##name, "ZWAILMOOR_" #name, sentence}
 
@@ -40,7 +44,7 @@ static const struct {
     REFUSAL(ENDS_EARLY, "the bytes end too early"),
     REFUSAL(TOO_MANY_NODES, "the expression has more than 48 nodes"),
     REFUSAL(TOO_DEEP, "the expression is deeper than 12"),
-    REFUSAL(NO_SUCH_LIST, "the expression names a list that is not there"),
+    REFUSAL(NO_SUCH_LIST, "the expression or the change names a list that is not there"),
     REFUSAL(LEFT_OVER, "something is left over behind the end, or a fill bit is 1"),
     REFUSAL(ROW_TOO_SHORT, "a lent row is too short for the result"),
     REFUSAL(NUMBER_OF_LISTS, "there are no lists, or more than 32"),
@@ -51,6 +55,9 @@ static const struct {
     REFUSAL(BAD_BOOKMARK, "the bookmark is above 4294967296"),
     REFUSAL(LENGTHS_DIFFER, "codes and arguments differ in length, or the row of replies is shorter than the codes"),
     REFUSAL(UNKNOWN_BYTE, "a byte of the expression's row stands for no node"),
+    REFUSAL(NO_CHANGE, "the number to add is in the list, or the number to remove is not"),
+    REFUSAL(LIST_FULL, "the list to add to has 65535 numbers"),
+    REFUSAL(ROW_NOT_CURRENT, "the kept row or its count is not that of the expression's members"),
 };
 
 /* Says what is wrong with which part of the input. Always 1, for the exit status. */
@@ -128,14 +135,14 @@ static int read_question(size_t length, struct question *asked)
     return 0;
 }
 
-/* Every page is a run of its own: all that is kept from one to the next is the bookmark. */
-static int print_members(const struct question *asked)
+/* Every page is a run of its own: all that is kept from one to the next is the bookmark. What is shown stays in `members`. */
+static int print_members(const struct question *asked, size_t *shown)
 {
     static const uint8_t codes[PAGE] = {ZWAILMOOR_NEXT};
     static const uint32_t arguments[PAGE] = {0};
     uint64_t bookmark = ZWAILMOOR_FIRST_BOOKMARK;
     uint64_t replies[PAGE] = {0};
-    size_t members = 0, page, i;
+    size_t page, i;
 
     for (page = 1; replies[PAGE - 1] != ZWAILMOOR_FINISHED; page++) {
         zwailmoor_run_result result =
@@ -145,13 +152,44 @@ static int print_members(const struct question *asked)
         if (result.number != ZWAILMOOR_ACCEPTED)
             return refused("the run", result.number);
         printf("page %zu from bookmark %" PRIu64 ":", page, bookmark);
-        for (i = 0; i < PAGE && replies[i] != ZWAILMOOR_FINISHED; i++)
+        for (i = 0; i < PAGE && replies[i] != ZWAILMOOR_FINISHED; i++) {
+            members[(*shown)++] = (uint32_t)replies[i];
             printf(" %" PRIu64, replies[i]);
-        members += i;
+        }
         bookmark = result.bookmark;
         printf("%s; go on from bookmark %" PRIu64 "\n", i < PAGE ? " finished" : "", bookmark);
     }
-    printf("members %zu\n", members);
+    printf("members %zu\n", *shown);
+    return 0;
+}
+
+/* A whole number; 0 on success. */
+static int read_number(const char *text, uintmax_t most, uintmax_t *number)
+{
+    char *end;
+
+    errno = 0;
+    *number = strtoumax(text, &end, 10);
+    if (*text < '0' || *text > '9' || *end != '\0' || errno != 0 || *number > most) {
+        (void)fprintf(stderr, "%s is no number up to %" PRIuMAX ".\n", text, most);
+        return 1;
+    }
+    return 0;
+}
+
+/* One number more in a list: nothing is drawn again to show the members. */
+static int add_number(const struct question *asked, uintmax_t list, uintmax_t number, size_t shown)
+{
+    uint32_t result = zwailmoor_update(numbers, NUMBERS, ends, asked->lists, asked->packed, asked->packed_length, (size_t)list,
+                                       (uint32_t)number, 1, members, NUMBERS, &shown);
+    size_t i;
+
+    if (result != ZWAILMOOR_ACCEPTED)
+        return refused("the change", result);
+    printf("%" PRIuMAX " added to list %" PRIuMAX "; members %zu:", number, list, shown);
+    for (i = 0; i < shown; i++)
+        printf(" %" PRIu32, members[i]);
+    printf("\n");
     return 0;
 }
 
@@ -159,13 +197,22 @@ int main(int argc, char **argv)
 {
     const char *path = argc > 1 ? argv[1] : "samples/console";
     struct question asked = {NULL, 0, 0, 0};
-    size_t length = 0;
+    size_t length = 0, shown = 0;
+    uintmax_t list = 0, number = 0;
     int failed;
 
+    if (argc == 3 || argc > 4) {
+        (void)fprintf(stderr, "It takes FILE, or FILE LIST NUMBER.\n");
+        return 1;
+    }
+    if (argc == 4 && (read_number(argv[2], SIZE_MAX, &list) != 0 || read_number(argv[3], UINT32_MAX, &number) != 0))
+        return 1;
     if (read_input(path, &length) != 0 || read_question(length, &asked) != 0)
         return 1;
     print_lists(&asked);
-    failed = print_members(&asked);
+    failed = print_members(&asked, &shown);
+    if (failed == 0 && argc == 4)
+        failed = add_number(&asked, list, number, shown);
     /* A print that failed is remembered by the stream, so one look at the end is enough. */
     if (fflush(stdout) != 0 || ferror(stdout)) {
         (void)fprintf(stderr, "The members could not all be printed.\n");

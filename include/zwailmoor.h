@@ -11,6 +11,7 @@
  *     references, which are so. For an empty row lend the address of any variable of the type.
  *   - A row must really have the length that is said of it. No call can test that.
  *   - A row that is written (one without const) must not overlap any other row of the same call. Rows that are only read may.
+ *   - A count that is lent is a row of one, and so the same holds of it.
  *
  * Threads. The library has no state: any number of threads may call at once, as long as nobody writes a row while it is lent
  * to another thread's call.
@@ -19,8 +20,9 @@
  * no earlier call that has to be made first: each call tests what it is given.
  *
  * Refusals. Every call but zwailmoor_list_span hands back a number: 0 (ZWAILMOOR_ACCEPTED), or what is wrong with the input. A
- * refusal leaves every row as it was, and every other part of the result is 0. Where several apply, the one that is tested first
- * is handed back; the order is said at each call. On success, elements of a row behind those written hold what they held.
+ * refusal leaves every row and a lent count as they were, and every other part of the result is 0. Where several apply, the one
+ * that is tested first is handed back; the order is said at each call. On success, elements of a row behind those written hold
+ * what they held.
  */
 #ifndef ZWAILMOOR_H
 #define ZWAILMOOR_H
@@ -42,12 +44,12 @@ extern "C" {
 #define ZWAILMOOR_FIRST_BOOKMARK UINT64_C(0)
 #define ZWAILMOOR_TOP_BOOKMARK UINT64_C(4294967296)
 
-/* What is handed back as `number`. */
+/* What is handed back as `number`, and by zwailmoor_update. */
 #define ZWAILMOOR_ACCEPTED 0          /* Nothing is wrong. */
 #define ZWAILMOOR_ENDS_EARLY 1        /* The bytes or the row end too early. */
 #define ZWAILMOOR_TOO_MANY_NODES 2    /* The expression has more than 48 nodes. */
 #define ZWAILMOOR_TOO_DEEP 3          /* The expression is deeper than 12. */
-#define ZWAILMOOR_NO_SUCH_LIST 4      /* The expression names a list that is not there. */
+#define ZWAILMOOR_NO_SUCH_LIST 4      /* The expression or the change names a list that is not there. */
 #define ZWAILMOOR_LEFT_OVER 5         /* Something is left over behind the end, or a fill bit is 1. */
 #define ZWAILMOOR_ROW_TOO_SHORT 6     /* A lent row is too short for the result. */
 #define ZWAILMOOR_NUMBER_OF_LISTS 7   /* There are no lists, or more than 32. */
@@ -58,6 +60,9 @@ extern "C" {
 #define ZWAILMOOR_BAD_BOOKMARK 12     /* The bookmark is above 4,294,967,296. */
 #define ZWAILMOOR_LENGTHS_DIFFER 13   /* Codes and arguments differ in length, or the replies' row is shorter than the codes. */
 #define ZWAILMOOR_UNKNOWN_BYTE 14     /* A byte of an expression's row stands for no node. */
+#define ZWAILMOOR_NO_CHANGE 15        /* The number to add is in the list, or the number to remove is not. */
+#define ZWAILMOOR_LIST_FULL 16        /* The list to add to has 65,535 numbers. */
+#define ZWAILMOOR_ROW_NOT_CURRENT 17  /* The kept row or its count is not that of the expression's members. */
 
 /* The codes of a run's calls. Any other code is replied to as unknown, and changes nothing. */
 #define ZWAILMOOR_NEXT 0              /* The least member not below the floor; its argument is ignored. */
@@ -154,6 +159,22 @@ zwailmoor_run_result zwailmoor_run(const uint32_t *numbers, size_t numbers_lengt
                                    const uint8_t *packed, size_t packed_length, uint64_t bookmark, const uint8_t *codes,
                                    size_t codes_length, const uint32_t *arguments, size_t arguments_length, uint64_t *replies,
                                    size_t replies_length);
+
+/*
+ * One change, with the shown members kept current: adds a number to a list or removes it (`add` 0 removes, any other value adds).
+ * The first `*count` elements of `members` are the members of the packed expression over the lists, ascending, before and after;
+ * only that number may have come or gone. Hands back the refusal's number, or 0.
+ * In `numbers` the later numbers move by one place, and the ends from that list's on by one: the last end says how far the row is
+ * used. Behind the new last end and the new count the rows hold what they held.
+ * Adding takes a place behind the last end; a new member takes one behind the old ones, and can come by removing too, from a list
+ * that is subtracted. One place behind each is always enough.
+ * Refusals: 7, 10, 11 (each over all lists before the next); of the expression as in zwailmoor_unpack_expression 1 to 5; 4 for
+ * the list; 17; 15; 16; 6 for either row.
+ * To test 17 it draws all members, so it takes about as long as drawing them in one run.
+ */
+uint32_t zwailmoor_update(uint32_t *numbers, size_t numbers_length, uint32_t *ends, size_t ends_length, const uint8_t *packed,
+                          size_t packed_length, size_t list, uint32_t number, uint8_t add, uint32_t *members,
+                          size_t members_length, size_t *count);
 
 #ifdef __cplusplus
 }

@@ -2,8 +2,9 @@
 //! that the calls have. A peer that tests less would be no fair measure.
 
 use crate::inputs::{Dice, Tree, SEED};
-use crate::peers::{bits, same_steps};
+use crate::peers::{bits, same_change, same_steps};
 use std::collections::BTreeMap;
+use zwailmoor::Change;
 
 const INPUTS: usize = 50_000;
 const FILLED: u8 = 0xa5;
@@ -95,6 +96,35 @@ fn one_run(dice: &mut Dice, expressions: &[Vec<u8>]) -> u32 {
     engine.err().unwrap_or(0)
 }
 
+/// Free places behind the numbers and the members, or none; sometimes the members are not those of the expression.
+fn one_change(dice: &mut Dice, expressions: &[Vec<u8>]) -> u32 {
+    let (mut numbers, ends) = rows(dice);
+    let packed = expressions[dice.below(expressions.len() as u64) as usize].clone();
+    let packed = damaged(dice, packed);
+    let drawn = zwailmoor::members(&numbers, &ends, &packed, 0, 1000);
+    let mut members: Vec<u32> = drawn.map_or(Vec::new(), Iterator::collect);
+    let count = members.len() + usize::from(dice.below(16) == 0);
+    if dice.below(16) == 0 && !members.is_empty() {
+        members[0] ^= 1;
+    }
+    let number = numbers.first().copied().unwrap_or(0).saturating_add(dice.below(30) as u32);
+    let change = [Change::Add(number), Change::Remove(number)][dice.below(2) as usize];
+    let list = dice.below(9) as usize;
+    numbers.resize(numbers.len() + dice.below(3) as usize, 7);
+    members.resize(members.len() + dice.below(3) as usize, 7);
+    let (mut a, mut b) = (
+        (numbers.clone(), ends.clone(), members.clone(), count),
+        (numbers.clone(), ends.clone(), members, count),
+    );
+    let engine = zwailmoor::update(&mut a.0, &mut a.1, &packed, list, change, &mut a.2, &mut a.3);
+    let peer = same_change::update(&mut b.0, &mut b.1, &packed, list, change, &mut b.2, &mut b.3);
+    let engine = engine.map_err(|refusal| refusal.number());
+    let case = || format!("{change:?}, list {list}, {packed:02x?} over {ends:?} of {numbers:?}");
+    assert_eq!(engine, peer, "a change differs: {}", case());
+    assert_eq!(a, b, "what a change leaves differs: {}", case());
+    engine.err().unwrap_or(0)
+}
+
 /// Writes a delivery by both; hands back what was written.
 fn one_encode(dice: &mut Dice) -> (u32, Vec<u8>) {
     let (numbers, ends) = rows(dice);
@@ -131,6 +161,15 @@ fn one_decode(dice: &mut Dice, delivery: Vec<u8>) -> u32 {
     engine.err().unwrap_or(0)
 }
 
+/// No number is added to a list of 65,535.
+fn full_list() {
+    let (mut numbers, mut ends, packed) = ((0..65_536).collect::<Vec<u32>>(), [65_535, 65_535], Tree::List(1).packed());
+    let add = Change::Add(65_536);
+    let engine = zwailmoor::update(&mut numbers, &mut ends, &packed, 0, add, &mut [], &mut 0).map_err(|refusal| refusal.number());
+    let peer = same_change::update(&mut numbers, &mut ends, &packed, 0, add, &mut [], &mut 0);
+    assert_eq!([engine, peer], [Err(16); 2], "a number more than 65,535");
+}
+
 /// A list of 65,535 numbers is taken, one of 65,536 is not.
 fn longest_list() {
     for (size, number) in [(65_535, 0), (65_536, 10)] {
@@ -155,14 +194,18 @@ fn report(call: &str, met: &Met, wanted: &[u32]) {
 
 pub fn demand() {
     longest_list();
+    full_list();
     let mut dice = Dice::new(SEED + 3);
     let expressions = expressions();
-    let (mut runs, mut encodes, mut decodes) = (Met::new(), Met::new(), Met::new());
+    let (mut runs, mut encodes, mut decodes, mut changes) = (Met::new(), Met::new(), Met::new(), Met::new());
     for _ in 0..INPUTS {
         *runs.entry(one_run(&mut dice, &expressions)).or_default() += 1;
         let (number, delivery) = one_encode(&mut dice);
         *encodes.entry(number).or_default() += 1;
         *decodes.entry(one_decode(&mut dice, delivery)).or_default() += 1;
+    }
+    for _ in 0..INPUTS {
+        *changes.entry(one_change(&mut dice, &expressions)).or_default() += 1;
     }
     println!(
         "- the engine and the hand-written peers agree on {INPUTS} small inputs of each call, good and damaged. Numbers met:"
@@ -170,4 +213,6 @@ pub fn demand() {
     report("run", &runs, &[0, 1, 2, 3, 4, 5, 7, 10, 11, 12, 13]);
     report("encode", &encodes, &[0, 6, 7, 10, 11]);
     report("decode", &decodes, &[0, 1, 5, 6, 7, 8, 9]);
+    // And 16, by the list of 65,535 above.
+    report("change", &changes, &[0, 1, 2, 3, 4, 5, 6, 7, 10, 11, 15, 17]);
 }

@@ -196,3 +196,27 @@ pub fn growth_case(lists: usize, size: usize, tree: &Tree) -> Case {
     let lists = (0..lists).map(|_| dice.subset(size, universe)).collect();
     Case::new("growth", lists, tree.clone())
 }
+
+/// A number that comes into a list or goes out of it.
+#[derive(Clone, Copy)]
+pub struct Change {
+    pub list: usize,
+    pub number: u32,
+    pub adds: bool,
+}
+
+/// The console's case, and 256 changes of it: a random number of a random list, out where it is in and in where it is not.
+pub fn changing_case() -> (Case, Vec<Change>) {
+    let mut dice = Dice::new(SEED + 4);
+    let lists = subsets(&mut dice, 4, UNIVERSE);
+    let mut places = BTreeSet::new();
+    let mut changes = Vec::new();
+    while changes.len() < 256 {
+        let (list, number) = (dice.below(4) as usize, dice.below(UNIVERSE as u64) as u32);
+        if places.insert((list, number)) {
+            let adds = lists[list].binary_search(&number).is_err();
+            changes.push(Change { list, number, adds });
+        }
+    }
+    (Case::new("console", lists, Tree::console()), changes)
+}

@@ -1,6 +1,7 @@
 //! The engine beside other ways to the same answers: one program, one machine, the same input.
 
 mod agreement;
+mod changing;
 mod checking;
 mod deliveries;
 mod drawing;
@@ -36,6 +37,13 @@ fn print_method() {
     println!("  are prepared. Same steps: the same in idiomatic Rust, with the same tests, refusals, replies, moves and places");
     println!("- BTreeSet, CRoaring and sqlite3 work on prepared sets, bitmaps and tables; building them is a column of its own.");
     println!("  Merges and BTreeSet make a new vector for the result, CRoaring and sqlite3 write into a prepared row");
+    println!(
+        "- one change: a number comes into one of the lists or goes out of it, by a call that tests lists, expression and kept"
+    );
+    println!(
+        "  members, as the same steps do. Drawn afresh: the rows are changed by hand, and runs draw all members again. No tests:"
+    );
+    println!("  lists and members are taken as right, and only the one number is looked up");
     println!("- before it is timed, every contender's whole result is compared with the others'");
 }
 
@@ -44,6 +52,7 @@ fn main() {
     agreement::demand();
     let drawn = drawing::all();
     let checks = checking::run();
+    changing::run();
     let speeds = deliveries::all();
     growth::all();
     verdict::print(&drawn, &checks, &speeds);

@@ -27,7 +27,7 @@ fn judged(ratio: Option<Ratio>, holds: impl Fn(f64) -> bool) -> String {
     })
 }
 
-fn waited(results: &Results) -> String {
+pub fn waited(results: &Results) -> String {
     results
         .waited
         .map_or("not known".into(), |share| format!("{:.0}%", share * 100.0))

@@ -29,6 +29,15 @@ pub struct RunResult {
     pub bookmark: u64,
 }
 
+/// What [`update`] does to a list. There is nothing else to do to it, so a match needs no wildcard arm.
+#[derive(Debug, Clone, Copy, PartialEq, Eq, Hash)]
+pub enum Change {
+    /// Add this number.
+    Add(u32),
+    /// Remove this number.
+    Remove(u32),
+}
+
 // A result of the C calls is taken apart without `..`, so that no part which comes to it is left behind.
 
 fn count(result: ffi::WriteResult) -> Result<usize, Refusal> {
@@ -109,4 +118,50 @@ pub fn run(
         bookmark,
     } = ffi::run(numbers, ends, packed, bookmark, codes, arguments, replies);
     Refusal::test(number).map(|()| RunResult { moves, places, bookmark })
+}
+
+/// Adds a number to a list or removes it, and keeps a row of the expression's members current.
+///
+/// The first `count` elements of `members` are the expression's members over the lists, ascending, before and after; only that
+/// number may have come or gone. The later numbers of the lists move by one place, and the ends from that list's on by one. The rows
+/// behind the new last end and the new count hold what they held.
+///
+/// Adding takes a place behind the last end; a new member takes one behind the old ones, and can come by removing too, from a
+/// list that is subtracted. It draws all members to compare them with the row, so it takes about as long as a [`run`] that does.
+///
+/// ```
+/// use zwailmoor::{update, Change};
+///
+/// // team, partners, held, withdrawn, and a free place; "(team or partners) and held, but not withdrawn"
+/// let mut numbers = [101, 104, 107, 110, 102, 104, 108, 101, 102, 104, 107, 108, 104, 107, 0];
+/// let mut ends = [4, 7, 12, 14];
+/// let packed = [0x73, 0x10, 0x00, 0x41, 0x03];
+/// let (mut members, mut count) = ([101, 102, 108, 0], 3);
+///
+/// // 102 is withdrawn, and 104 no longer.
+/// update(&mut numbers, &mut ends, &packed, 3, Change::Add(102), &mut members, &mut count)?;
+/// assert_eq!(members[..count], [101, 108]);
+/// update(&mut numbers, &mut ends, &packed, 3, Change::Remove(104), &mut members, &mut count)?;
+/// assert_eq!(members[..count], [101, 104, 108]);
+/// assert_eq!((&numbers[12..14], ends), (&[102, 107][..], [4, 7, 12, 14]));
+/// # Ok::<(), zwailmoor::Refusal>(())
+/// ```
+///
+/// # Errors
+/// 7, 10, 11, each over all lists before the next; of the expression 1 to 5 as in [`unpack_expression`]; 4 for the list; 17; 15;
+/// 16; 6 for either row. All rows and the count are then as they were.
+pub fn update(
+    numbers: &mut [u32],
+    ends: &mut [u32],
+    packed: &[u8],
+    list: usize,
+    change: Change,
+    members: &mut [u32],
+    count: &mut usize,
+) -> Result<(), Refusal> {
+    let (number, add) = match change {
+        Change::Add(number) => (number, 1),
+        Change::Remove(number) => (number, 0),
+    };
+    Refusal::test(ffi::update(numbers, ends, packed, list, number, add, members, count))
 }

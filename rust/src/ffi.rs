@@ -1,9 +1,10 @@
-//! The engine's six C calls, and the only `unsafe` of this package.
+//! The engine's seven C calls, and the only `unsafe` of this package.
 //!
 //! Each function here lends slices for one call. What the engine asks of its caller (`include/zwailmoor.h`) a slice is by its
 //! type: its pointer is aligned and never null, also where it is empty; it has as many elements as it says; and a `&mut` slice
-//! overlaps no other slice. The engine keeps no pointer, and takes every value. In C a slice is two arguments, pointer and
-//! length. They must be declared so: Rust's own `&[T]` in an `extern "C"` signature is passed otherwise once registers run out.
+//! overlaps no other slice; a `&mut` count is as good. The engine keeps no pointer, and takes every value. In C a slice is two
+//! arguments, pointer and length. They must be declared so: Rust's own `&[T]` in an `extern "C"` signature is passed otherwise
+//! once registers run out.
 
 /// What reading or writing one row hands back.
 #[repr(C)]
@@ -88,6 +89,20 @@ extern "C" {
         replies: *mut u64,
         replies_length: usize,
     ) -> RunResult;
+    fn zwailmoor_update(
+        numbers: *mut u32,
+        numbers_length: usize,
+        ends: *mut u32,
+        ends_length: usize,
+        packed: *const u8,
+        packed_length: usize,
+        list: usize,
+        number: u32,
+        add: u8,
+        members: *mut u32,
+        members_length: usize,
+        count: *mut usize,
+    ) -> u32;
 }
 
 pub fn unpack_expression(packed: &[u8], lists: usize, row: &mut [u8]) -> WriteResult {
@@ -158,6 +173,37 @@ pub fn run(
             arguments.len(),
             replies.as_mut_ptr(),
             replies.len(),
+        )
+    }
+}
+
+// As many arguments as in C.
+#[allow(clippy::too_many_arguments)]
+pub fn update(
+    numbers: &mut [u32],
+    ends: &mut [u32],
+    packed: &[u8],
+    list: usize,
+    number: u32,
+    add: u8,
+    members: &mut [u32],
+    count: &mut usize,
+) -> u32 {
+    // SAFETY: all pairs are slices, and the three that are written and `count` are `&mut`, so apart from each other.
+    unsafe {
+        zwailmoor_update(
+            numbers.as_mut_ptr(),
+            numbers.len(),
+            ends.as_mut_ptr(),
+            ends.len(),
+            packed.as_ptr(),
+            packed.len(),
+            list,
+            number,
+            add,
+            members.as_mut_ptr(),
+            members.len(),
+            count,
         )
     }
 }

@@ -2,10 +2,11 @@
 //!
 //! Up to 32 ascending lists of numbers are lent as all numbers in one row and one end for each list. An expression combines them
 //! by union, intersection and difference. A [`run`] draws members of the result in order, or checks them, and hands back a
-//! bookmark from which a later run goes on; [`members`] is all of them as an iterator.
+//! bookmark from which a later run goes on; [`members`] is all of them as an iterator. [`update`] changes a list by one number, and
+//! keeps a row of members current.
 //!
 //! No call allocates (only [`members`] does), keeps a slice or has state. Every call takes any values; what is wrong comes back as
-//! a [`Refusal`], and all lent rows are then as they were. On success, elements behind those written hold what they held.
+//! a [`Refusal`], and all lent rows, and a lent count, are then as they were. On success, elements behind those written hold what they held.
 //!
 //! # "(team or partners) and held, but not withdrawn"
 //!
@@ -42,7 +43,9 @@ mod members;
 mod refusal;
 
 pub use call::{Call, Reply};
-pub use calls::{decode_delivery, encode_delivery, list_part, pack_expression, run, unpack_expression, DecodeResult, RunResult};
+pub use calls::{
+    decode_delivery, encode_delivery, list_part, pack_expression, run, unpack_expression, update, Change, DecodeResult, RunResult,
+};
 pub use members::{members, Members};
 pub use refusal::Refusal;
 

@@ -3,7 +3,7 @@
 use std::error::Error;
 use std::fmt;
 
-/// Why a call refused its input. All lent rows are then as they were.
+/// Why a call refused its input. All lent rows, and a lent count, are then as they were.
 ///
 /// Where several reasons apply, the one that is tested first is given; each call says its order.
 ///
@@ -29,7 +29,7 @@ pub enum Refusal {
     TooManyNodes = 2,
     /// The expression is deeper than 12.
     TooDeep = 3,
-    /// The expression names a list that is not there.
+    /// The expression or the change names a list that is not there.
     NoSuchList = 4,
     /// Something is left over behind the end, or a fill bit is 1.
     LeftOver = 5,
@@ -51,6 +51,12 @@ pub enum Refusal {
     LengthsDiffer = 13,
     /// A byte of an expression's row stands for no node.
     UnknownByte = 14,
+    /// The number to add is in the list, or the number to remove is not.
+    NoChange = 15,
+    /// The list to add to has 65,535 numbers.
+    ListFull = 16,
+    /// The kept row or its count is not that of the expression's members.
+    RowNotCurrent = 17,
 }
 
 use Refusal::*;
@@ -84,6 +90,9 @@ impl Refusal {
         BadBookmark,
         LengthsDiffer,
         UnknownByte,
+        NoChange,
+        ListFull,
+        RowNotCurrent,
     ];
 
     /// The refusal's number, as it is in C.
@@ -112,7 +121,7 @@ impl fmt::Display for Refusal {
             EndsEarly => "the bytes or the row end too early",
             TooManyNodes => "the expression has more than 48 nodes",
             TooDeep => "the expression is deeper than 12",
-            NoSuchList => "the expression names a list that is not there",
+            NoSuchList => "the expression or the change names a list that is not there",
             LeftOver => "something is left over behind the end, or a fill bit is 1",
             RowTooShort => "a lent row is too short for the result",
             NumberOfLists => "there are no lists, or more than 32",
@@ -123,6 +132,9 @@ impl fmt::Display for Refusal {
             BadBookmark => "the bookmark is above 4,294,967,296",
             LengthsDiffer => "codes and arguments differ in length, or the replies' row is shorter than the codes",
             UnknownByte => "a byte of the expression's row stands for no node",
+            NoChange => "the number to add is in the list, or the number to remove is not",
+            ListFull => "the list to add to has 65,535 numbers",
+            RowNotCurrent => "the kept row or its count is not that of the expression's members",
         })
     }
 }

@@ -85,11 +85,12 @@ fn build(name: &str, source: &str) -> PathBuf {
     program
 }
 
-/// What the example does with this input.
-fn console(program: &Path, name: &str, input: &[u8]) -> Output {
+/// What the example does with this input, and these arguments behind it.
+fn console(program: &Path, name: &str, input: &[u8], change: &[&str]) -> Output {
     let file = Path::new(env!("CARGO_TARGET_TMPDIR")).join(name);
     fs::write(&file, input).unwrap();
-    Command::new(program).arg(file).output().expect("the example runs")
+    let mut console = Command::new(program);
+    console.arg(file).args(change).output().expect("the example runs")
 }
 
 /// Each of the header's prototypes is called from C.
@@ -104,14 +105,14 @@ fn round_trip() {
 fn example() {
     let program = built_console();
     let sample = fs::read(root().join("samples/console")).unwrap();
-    let printed = console(program, "sample", &sample);
+    let printed = console(program, "sample", &sample, &["3", "101"]);
     let expected = fs::read_to_string(root().join("examples/console.out")).unwrap();
     assert_eq!(String::from_utf8_lossy(&printed.stdout), expected);
     assert_eq!((printed.status.code(), printed.stderr), (Some(0), vec![]));
 
     // A whole last page: its two members are followed by a page that only says finished.
     let two = [0x01, 0x00, 0x04, 0x00, 0x08, 0x00, 0x00, 0x00, 0x08, 0x00];
-    let printed = console(program, "two", &two);
+    let printed = console(program, "two", &two, &[]);
     let text = String::from_utf8_lossy(&printed.stdout).into_owned();
     assert!(
         text.contains("page 1 from bookmark 0: 2 3; go on from bookmark 4\n"),
@@ -143,7 +144,28 @@ fn example_refuses() {
         (&[0; 65_536], "has more than 65535 bytes"),
     ];
     for (input, sentence) in inputs {
-        let printed = console(program, "refused", input);
+        let printed = console(program, "refused", input, &[]);
+        let said = String::from_utf8_lossy(&printed.stderr).into_owned();
+        assert!(said.contains(sentence), "{said}");
+        assert_eq!(printed.status.code(), Some(1));
+    }
+}
+
+#[test]
+fn example_refuses_a_change() {
+    let program = built_console();
+    let sample = fs::read(root().join("samples/console")).unwrap();
+    let changes: [(&[&str], &str); 7] = [
+        (&["4", "101"], "the change is refused, ZWAILMOOR_NO_SUCH_LIST"),
+        (&["3", "104"], "the change is refused, ZWAILMOOR_NO_CHANGE"),
+        (&["3", "4294967296"], "4294967296 is no number up to 4294967295"),
+        (&["3", "1x"], "1x is no number"),
+        (&["-1", "101"], "-1 is no number"),
+        (&["", "101"], "is no number"),
+        (&["3"], "FILE LIST NUMBER"),
+    ];
+    for (change, sentence) in changes {
+        let printed = console(program, "unchanged", &sample, change);
         let said = String::from_utf8_lossy(&printed.stderr).into_owned();
         assert!(said.contains(sentence), "{said}");
         assert_eq!(printed.status.code(), Some(1));

@@ -65,10 +65,29 @@ static int runs(void)
     return 0;
 }
 
+static int updates(void)
+{
+    static const uint8_t difference[2] = {0x40, 0x01}; /* list 0 minus list 1 */
+    uint32_t numbers[4] = {2, 3, 5, 77};
+    uint32_t ends[2] = {2, 3};
+    uint32_t members[3] = {2, 3, 77};
+    size_t count = 2;
+    REQUIRE(14, zwailmoor_update(numbers, 4, ends, 2, difference, 2, 1, 2, 255, members, 3, &count) == ZWAILMOOR_ACCEPTED)
+    REQUIRE(15, numbers[1] == 3 && numbers[2] == 2 && numbers[3] == 5 && ends[0] == 2 && ends[1] == 4)
+    REQUIRE(16, count == 1 && members[0] == 3 && members[1] == 3 && members[2] == 77)
+    REQUIRE(17, zwailmoor_update(numbers, 4, ends, 2, difference, 2, 0, 4, 1, members, 3, &count) == ZWAILMOOR_ROW_TOO_SHORT)
+    REQUIRE(20, zwailmoor_update(numbers, 4, ends, 2, difference, 2, (size_t)1 << 32, 4, 1, members, 3, &count) == ZWAILMOOR_NO_SUCH_LIST)
+    REQUIRE(21, numbers[2] == 2 && numbers[3] == 5 && ends[1] == 4 && count == 1 && members[0] == 3 && members[2] == 77)
+    REQUIRE(18, zwailmoor_update(numbers, 4, ends, 2, difference, 2, 1, 2, 0, members, 3, &count) == ZWAILMOOR_ACCEPTED)
+    REQUIRE(19, numbers[2] == 5 && ends[1] == 3 && count == 2 && members[0] == 2 && members[1] == 3)
+    return 0;
+}
+
 int main(void)
 {
     int wrong = expressions();
     wrong = wrong == 0 ? operators() : wrong;
     wrong = wrong == 0 ? deliveries() : wrong;
-    return wrong == 0 ? runs() : wrong;
+    wrong = wrong == 0 ? runs() : wrong;
+    return wrong == 0 ? updates() : wrong;
 }

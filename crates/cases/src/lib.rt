@@ -1,6 +1,7 @@
 // A fixed, seeded generator of inputs, for comparing two implementations of a run. Every value is a
 // function of the case's number and of what it is for, so any case can be made again from its
 // number alone.
+pub mod changes;
 pub mod damage;
 pub mod dice;
 pub mod inputs;
@@ -9,6 +10,10 @@ pub mod packing;
 pub mod requests;
 pub mod trees;
 
+pub use changes::Change;
+pub use changes::Kept;
+pub use changes::change_of;
+pub use changes::kept_of;
 pub use damage::bad_begins;
 pub use damage::damaged;
 pub use damage::damaged_lists;

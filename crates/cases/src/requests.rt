@@ -107,7 +107,7 @@ fn listed(case: u64, index: u64, l: Lists) -> u64
 }
 
 // A number, or a neighbour of it where there is one: 20 of 100 each.
-fn nudged(case: u64, index: u64, x: u64) -> u64
+pub fn nudged(case: u64, index: u64, x: u64) -> u64
     ensures { λ r. ⌜ r < 4294967296 ⌝ }
 {
     let p = pick(case, NUDGE, index, 100);
@@ -123,7 +123,7 @@ fn nudged(case: u64, index: u64, x: u64) -> u64
 
 // Any argument: a list number or its neighbour in 65 of 100 calls, a small one in 20, 0 in 8,
 // 4294967295 in 3, anything in 4. After the last two little is left to find, so they are rare.
-fn any_argument(case: u64, index: u64, l: Lists) -> u64
+pub fn any_argument(case: u64, index: u64, l: Lists) -> u64
     ensures { λ r. ⌜ r < 4294967296 ⌝ }
 {
     let p = pick(case, ARGUMENT, index, 100);

@@ -25,7 +25,7 @@ pub struct Difference {
     pub says: u64,
 }
 
-fn differs(what: u32, at: usize, says: u64) -> Difference {
+pub fn differs(what: u32, at: usize, says: u64) -> Difference {
     Difference {
         asked: true,
         what,
@@ -34,7 +34,7 @@ fn differs(what: u32, at: usize, says: u64) -> Difference {
     }
 }
 
-fn none() -> Difference {
+pub fn none() -> Difference {
     differs(0, 0, 0)
 }
 
@@ -133,7 +133,7 @@ pub fn list(
 }
 
 // Members beside the replies to a next for each and one more.
-fn listed(replies: &[u64], members: &[u32]) -> Difference {
+pub fn listed(replies: &[u64], members: &[u32]) -> Difference {
     let at = rows::agreeing_members(replies, members);
     let says = rows::element(replies, at);
     if at == members.len() && says == FINISHED {

@@ -2,7 +2,7 @@
 // broken off and resumed, and the program's list.
 pub mod evaluated;
 pub mod lent;
-mod rows;
+pub mod rows;
 mod stored;
 pub mod totals;
 
@@ -19,9 +19,11 @@ use lent::same_begin;
 pub use rows::all_64;
 use rows::are_joined;
 use rows::are_places;
+pub use rows::copy;
 pub use rows::hold;
 use rows::last_bytes;
 use rows::last_numbers;
+pub use rows::same_numbers;
 use stored::Delivery;
 use stored::Packed;
 

@@ -1,8 +1,13 @@
 // Rows compared and copied.
 use crate::MARK;
+use cases::first_numbers;
 ghost use Prim.Native.Nat.{_<_};
 
 pub fn wide(x: u32) -> u64 {
+    x as u64
+}
+
+pub fn long(x: usize) -> u64 {
     x as u64
 }
 
@@ -36,6 +41,15 @@ pub fn all_64(row: &[u64; 64]) -> &[u64] {
     row
 }
 
+// The first numbers of a row of which a part was lent.
+pub fn of_512(row: &[u32; 512], n: usize) -> &[u32] {
+    first_numbers(row, n)
+}
+
+pub fn of_520(row: &[u32; 520], n: usize) -> &[u32] {
+    first_numbers(row, n)
+}
+
 // How many replies at the front of one row are those of another.
 pub fn agreeing(a: &[u64], b: &[u64]) -> usize {
     for i in 0..a.len() {
@@ -51,16 +65,23 @@ pub fn element(row: &[u64], i: usize) -> u64 {
     if i < row.len() { row[i] } else { MARK }
 }
 
-pub fn same_numbers(a: &[u32], b: &[u32]) -> bool {
-    if a.len() != b.len() {
-        return false;
-    }
+// How many numbers at the front of one row are those of another.
+pub fn agreeing_numbers(a: &[u32], b: &[u32]) -> usize {
     for i in 0..a.len() {
-        if a[i] != b[i] {
-            return false;
+        if a[i] != number_at(b, i) {
+            return i;
         }
     }
-    true
+    a.len()
+}
+
+// A number of a row, 0 behind its end.
+pub fn number_at(row: &[u32], i: usize) -> u32 {
+    if i < row.len() { row[i] } else { 0 }
+}
+
+pub fn same_numbers(a: &[u32], b: &[u32]) -> bool {
+    a.len() == b.len() && agreeing_numbers(a, b) == a.len()
 }
 
 // Whether the numbers of a row from a place on are all this one.
@@ -123,5 +144,18 @@ fn put(row: &mut [u8], at: usize, b: u8) {
 pub fn lay(row: &mut [u8], at: usize, from: &[u8]) {
     for i in 0..from.len() {
         put(row, at % 65536 + i, from[i]);
+    }
+}
+
+fn put_number(row: &mut [u32], at: usize, x: u32) {
+    if at < row.len() {
+        row[at] = x;
+    }
+}
+
+// Copies numbers to the front of a row, as far as it goes.
+pub fn copy(row: &mut [u32], from: &[u32]) {
+    for i in 0..from.len() {
+        put_number(row, i, from[i]);
     }
 }

@@ -3,7 +3,8 @@ use crate::Verdict;
 use crate::rows::wide;
 ghost use Prim.Native.Nat.{_<_};
 
-// What the cases of one kind came to: the calls' replies by kind, the runs' moves, the runs by their number.
+// What the cases of one kind came to: the calls' replies by kind, the runs' moves, the members that came or went by a change, the
+// runs or changes by their number.
 pub struct Totals {
     pub differ: u64,
     pub members: u64,
@@ -12,7 +13,9 @@ pub struct Totals {
     pub no: u64,
     pub unknown: u64,
     pub moves: u64,
-    pub numbers: [u64; 15],
+    pub came: u64,
+    pub went: u64,
+    pub numbers: [u64; 18],
 }
 
 pub fn none() -> Totals {
@@ -24,7 +27,9 @@ pub fn none() -> Totals {
         no: 0,
         unknown: 0,
         moves: 0,
-        numbers: [0; 15],
+        came: 0,
+        went: 0,
+        numbers: [0; 18],
     }
 }
 
@@ -60,20 +65,35 @@ fn with_replies(t: Totals, replies: [u64; 32]) -> Totals {
 }
 
 fn index(number: u32) -> usize
-    ensures { λ r. ⌜ r < 15 ⌝ }
+    ensures { λ r. ⌜ r < 18 ⌝ }
 {
-    (number % 15) as usize
+    (number % 18) as usize
 }
 
-// One case more.
+fn one_if(x: bool) -> u64 {
+    if x { 1 } else { 0 }
+}
+
+// One case more that came to a number, and whether it differs.
+fn with_number(t: Totals, number: u32, differs: bool) -> Totals {
+    let mut sum = t;
+    let at = index(number);
+    sum.numbers[at] = more(t.numbers[at], 1);
+    sum.differ = more(t.differ, one_if(differs));
+    sum
+}
+
 pub fn with_run(t: Totals, v: Verdict) -> Totals {
     let replies = v.replies;
     let mut sum = with_replies(t, replies);
     sum.moves = more(t.moves, wide(v.moves));
-    let at = index(v.number);
-    sum.numbers[at] = more(t.numbers[at], 1);
-    if v.differs != 0 {
-        sum.differ = more(t.differ, 1);
-    }
-    sum
+    with_number(sum, v.number, v.differs != 0)
+}
+
+// One change more, and whether a member came or went by it.
+pub fn with_change(t: Totals, number: u32, differs: bool, came: bool, went: bool) -> Totals {
+    let mut sum = t;
+    sum.came = more(t.came, one_if(came));
+    sum.went = more(t.went, one_if(went));
+    with_number(sum, number, differs)
 }

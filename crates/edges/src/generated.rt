@@ -1,10 +1,14 @@
 // The generated cases: how many came out alike by engine and second evaluator, and what they replied in all. One that did not is
 // printed whole.
 use crate::text;
+use crate::updates as lines;
+use cases::Bytes;
 use cases::Calls;
+use cases::Kept;
 use cases::Lists;
 use cases::first_bytes;
 use cases::first_numbers;
+use changed::Outcome;
 use compare::Verdict;
 use compare::totals;
 use compare::totals::Totals;
@@ -19,6 +23,12 @@ fn what(differs: u32) {
         5 => text::put(b"the bookmark"),
         6 => text::put(b"the places or moves"),
         7 => text::put(b"the run broken off"),
+        9 => text::put(b"the numbers"),
+        10 => text::put(b"the ends"),
+        11 => text::put(b"the kept row"),
+        12 => text::put(b"the count"),
+        13 => text::put(b"the members drawn afresh"),
+        14 => text::put(b"the change taken back"),
         _ => text::put(b"the program's list"),
     }
 }
@@ -56,10 +66,7 @@ fn show(case: u64, damaged: bool, differs: u32) {
     let made = compare::inputs(case, damaged);
     let l = made.lists;
     show_lists(l);
-    let x = made.expression;
-    let bytes = x.bytes;
-    text::put(b", packed");
-    text::bytes(first_bytes(&bytes, x.count));
+    show_packed(made.expression);
     text::put(b", bookmark ");
     let begin = made.begin;
     text::number(begin.bookmark);
@@ -89,6 +96,58 @@ fn sum(count: u64, damaged: bool) -> Totals {
     t
 }
 
+fn show_packed(x: Bytes) {
+    let bytes = x.bytes;
+    text::put(b", packed");
+    text::bytes(first_bytes(&bytes, x.count));
+}
+
+fn show_kept(k: Kept) {
+    let row = k.row;
+    text::put(b", kept");
+    all_numbers(first_numbers(&row, k.room));
+    text::with(b", count ", text::wide(k.count));
+}
+
+// A case of a change, whole.
+fn show_update(case: u64, differs: u32) {
+    text::with(b"case ", case);
+    text::put(b" differs in ");
+    what(differs);
+    let a = changed::asked_of(case);
+    let numbers = a.numbers;
+    text::put(b": numbers");
+    all_numbers(first_numbers(&numbers, a.room));
+    let lists = a.lists;
+    let ends = lists.ends;
+    text::put(b", ends");
+    all_numbers(first_numbers(&ends, lists.count));
+    show_packed(a.expression);
+    lines::change(a.change);
+    show_kept(a.kept);
+    text::end();
+}
+
+fn updated(case: u64) -> Outcome {
+    let o = changed::update_case(case);
+    if o.differs != 0 {
+        show_update(case, o.differs);
+    }
+    o
+}
+
+// The changes of the cases 0 to `count`, that one excluded.
+fn sum_updates(count: u64) -> Totals {
+    let mut t = totals::none();
+    let mut case: u64 = 0;
+    while case < count {
+        let o = updated(case);
+        t = totals::with_change(t, o.number, o.differs != 0, o.came, o.went);
+        case += 1;
+    }
+    t
+}
+
 fn item(n: u64, name: &[u8]) {
     text::put(b", ");
     text::number(n);
@@ -104,9 +163,9 @@ fn head(name: &[u8], count: u64, differ: u64) {
 }
 
 // How many runs each number came to.
-fn print_numbers(numbers: [u64; 15]) {
+fn print_numbers(numbers: [u64; 18]) {
     let mut n: usize = 0;
-    while n < 15 {
+    while n < 18 {
         if numbers[n] != 0 {
             by_number(n, numbers[n]);
         }
@@ -136,7 +195,18 @@ fn print(name: &[u8], count: u64, damaged: bool) {
     text::end();
 }
 
+fn print_updates(count: u64) {
+    let t = sum_updates(count);
+    head(b"updates, ", count, t.differ);
+    item(t.came, b" members came");
+    item(t.went, b" members went");
+    let numbers = t.numbers;
+    print_numbers(numbers);
+    text::end();
+}
+
 pub fn all() {
     print(b"generated, ", 100000, false);
     print(b"damaged, ", 50000, true);
+    print_updates(50000);
 }

@@ -21,7 +21,7 @@ pub struct Row8 {
     pub good: bool,
 }
 
-fn number_of(x: u64) -> u32 {
+pub fn number_of(x: u64) -> u32 {
     (x % 4294967296) as u32
 }
 

@@ -7,10 +7,12 @@ use crate::programs;
 use crate::remarks::Line;
 use crate::runs;
 use crate::stored;
+use crate::updates;
 use crate::words;
 use crate::words::Form;
 use crate::words::Numeral;
 use evaluator::Begin;
+use evaluator::Change;
 use evaluator::Lists;
 
 // How many fields a kind of line needs, with the name and the kind itself, and how many it knows. Those that it does not need may be
@@ -36,6 +38,9 @@ fn fields(kind: &[u8]) -> Bounds {
     }
     if check::same(kind, b"part") {
         return from(5, 5);
+    }
+    if check::same(kind, b"update") {
+        return from(10, 10);
     }
     // every other kind ends with a room
     from(4, 5)
@@ -64,6 +69,7 @@ fn lends_lists(kind: &[u8]) -> bool {
         || check::same(kind, b"encode")
         || check::same(kind, b"part")
         || check::same(kind, b"rows")
+        || check::same(kind, b"update")
 }
 
 fn size(n: Numeral) -> usize {
@@ -127,7 +133,7 @@ fn of_lists(line: &[u8], kind: &[u8]) -> Line {
     lent_lists(line, kind, marks::front_32(&row, numbers.count), laid)
 }
 
-// test | .., rows | .., part | .. | list number, encode | .. [| room]
+// test | .., rows | .., update | .., part | .. | list number, encode | .. [| room]
 fn lent_lists(line: &[u8], kind: &[u8], numbers: &[u32], lists: Lists) -> Line {
     let name = words::field(line, 0);
     if check::same(kind, b"test") {
@@ -136,6 +142,9 @@ fn lent_lists(line: &[u8], kind: &[u8], numbers: &[u32], lists: Lists) -> Line {
     }
     if check::same(kind, b"rows") {
         return rows(line, numbers, lists);
+    }
+    if check::same(kind, b"update") {
+        return update(line, numbers, lists);
     }
     if check::same(kind, b"part") {
         return part(line, numbers, lists);
@@ -190,6 +199,43 @@ fn rows_of_calls(line: &[u8], numbers: &[u32], lists: Lists, packed: &[u8], begi
         marks::front_8(&code_row, codes.count),
         marks::front_32(&argument_row, arguments.count),
         size(room),
+    )
+}
+
+// update | numbers | ends | packed | list number | number | add | kept row | count
+fn update(line: &[u8], numbers: &[u32], lists: Lists) -> Line {
+    let packed = given::bytes(line, 4);
+    let list = words::one(line, 5, words::TOP_64);
+    let number = words::one(line, 6, words::TOP);
+    let add = words::one(line, 7, 255);
+    if !packed.good || !list.good || !number.good || !add.good {
+        return Line::Unread;
+    }
+    let row = packed.row;
+    let front = marks::front_8(&row, packed.count);
+    let c = Change {
+        list: size(list),
+        number: given::number_of(number.value),
+        add: (add.value % 256) as u8,
+    };
+    update_of_kept(line, numbers, lists, front, c)
+}
+
+fn update_of_kept(line: &[u8], numbers: &[u32], lists: Lists, packed: &[u8], c: Change) -> Line {
+    let kept = given::whole(line, 8);
+    let count = words::one(line, 9, words::TOP_64);
+    if !kept.good || !count.good {
+        return Line::Unread;
+    }
+    let row = kept.row;
+    updates::update(
+        words::field(line, 0),
+        numbers,
+        lists,
+        packed,
+        c,
+        marks::front_32(&row, kept.count),
+        size(count),
     )
 }
 

@@ -12,6 +12,7 @@ mod runs;
 mod script;
 mod stored;
 mod text;
+mod updates;
 mod words;
 
 fn main() {

@@ -26,6 +26,10 @@ fn says(what: u32, at: usize, n: u64) {
     match what {
         compare::NUMBER => number(n),
         compare::BOOKMARK => text::with(b"bookmark ", n),
+        changed::NUMBERS => element(b"number ", at, n),
+        changed::ENDS => element(b"end ", at, n),
+        changed::KEPT => element(b"kept number ", at, n),
+        changed::COUNT => text::with(b"count ", n),
         _ => reply(at, n),
     }
 }
@@ -47,4 +51,10 @@ fn reply(at: usize, r: u64) {
     }
     text::put(b" is ");
     text::reply(r);
+}
+
+// An element of a row.
+fn element(what: &[u8], at: usize, n: u64) {
+    text::with(what, text::wide(at));
+    text::with(b" is ", n);
 }

@@ -1,9 +1,15 @@
 // A second evaluator for runs: what the paper's plain machine replies, over membership that is decided number by number.
-// It has no readers and no steps, so that it shares nothing with an engine that it is compared with.
+// It has no readers and no steps, so that it shares nothing with an engine that it is compared with. And one for a change of a
+// list, with the kept row of members: both are worked out afresh, and nothing is moved in a row.
+mod change;
 mod lent;
 mod member;
 mod tokens;
 
+pub use change::Change;
+pub use change::Updated;
+pub use change::members;
+pub use change::update;
 pub use lent::Lists;
 pub use lent::laid;
 use lent::stops;

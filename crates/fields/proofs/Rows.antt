@@ -6,8 +6,8 @@ use Prim.Native.Nat.{ℕ, _+_, _≤_, _<_}
 use native.Mathlib.Nat.{add-zero}
 use native.Mathlib.Numerals.{add-one}
 use native.Mathlib.Omega.{arith}
-use lib.ListN.{length, getD, take, drop, set, length-append, length-take, length-drop, take-append-drop, drop-of-length-le}
-use lib.Seq.{take-at, take-add, drop-drop, drop-append-add, drop-cons, set-split}
+use lib.ListN.{length, getD, take, drop, set, length-append, length-take, length-drop, take-append-drop, drop-of-length-le, List·getD-append}
+use lib.Seq.{take-at, take-add, take-suc, drop-drop, drop-append-add, drop-cons, set-split, set-at, getD-take}
 use Rattle.fields.specs.Rows.{lay}
 
 module _ {A : Type 0} where
@@ -78,3 +78,19 @@ module _ {A : Type 0} where
       ap (λ (l : List A). take at row ++ l) (append-assoc before (xs ++ behind) rest ∙ ap (λ (l : List A). before ++ l) (append-assoc xs behind rest ∙ ap (λ (l : List A). xs ++ l) back))
       ∙ sym (append-assoc (take at row) before (xs ++ drop (at + a + length xs) row))
       ∙ ap (λ (l : List A). l ++ (xs ++ drop (at + a + length xs) row)) (sym (take-add at a row))
+
+  -- a store just before what was laid
+  pub lay-before : (row : List A) (i : ℕ) (x : A) (xs : List A) → i < length row → set (lay row (i + 1) xs) i x ≡ lay row i (x ∷ xs)
+  unfolding lay
+  lay-before row i x xs h =
+      let rest : List A = xs ++ drop (i + 1 + length xs) row in
+      let ends : i + 1 + length xs ≡ i + length (x ∷ xs) = omega arith in
+      ap (λ (f : List A). set (f ++ rest) i x) (ap (λ (n : ℕ). take n row) (add-one i) ∙ take-suc row i x h)
+      ∙ ap (λ (f : List A). set f i x) (append-assoc (take i row) _ rest)
+      ∙ set-at (take i row) _ rest x i (omega (arith, length-take i row))
+      ∙ ap (λ (n : ℕ). take i row ++ (x ∷ (xs ++ drop n row))) ends
+
+  -- elements before what was laid stand
+  pub lay-earlier : (row : List A) (at : ℕ) (xs : List A) (i : ℕ) (d : A) → i < at → at ≤ length row → getD (lay row at xs) i d ≡ getD row i d
+  unfolding lay
+  lay-earlier row at xs i d h l = List·getD-append (take at row) _ d i (omega (arith, length-take at row)) ∙ getD-take at row i d h

@@ -1,13 +1,14 @@
 -- What the three tests let through, once for all who read lists; and where list k's part stands: inside the numbers. Assumes
 -- nothing.
-use mathlib.Core.Path.{_≡_, refl, ap}
+use mathlib.Core.Path.{_≡_, refl, sym, ap}
 use mathlib.Core.Bool.{true}
 use mathlib.Core.List.{List, [], _∷_}
 use Prim.Native.Nat.{ℕ, zero, suc, _+_, _-_, _≤_, _<_}
+use native.Mathlib.Numerals.{add-one}
 use native.Mathlib.Omega.{arith}
 use borrow.Author.Tests.{leb-true, lt-ltb}
 use lib.Dec.{leb}
-use lib.ListN.{length, getD, drop, length-take, length-drop}
+use lib.ListN.{length, getD, take, drop, length-take, length-drop}
 use Rattle.model.specs.Outcome.{Outcome, refused, accepted, number-of}
 use Rattle.model.specs.Lists.{Numbers, ascending, all-ascending, part, lists-from, count-holds, ends-hold, Lent, lists-of, or-empty, span-of}
 use Rattle.model.proofs.Order.{and-true, split, Up}
@@ -95,6 +96,21 @@ list-runs numbers ends k r lt =
       many = rw is (omega (arith, r .order k lt, r .inside k lt, length-take (stop - from) (drop from numbers), length-drop from numbers));
       is = is;
     }
+
+-- the same where `start_of` has found where it starts and where the next one does
+pub record Listed (numbers ends : List ℕ) (k from stop : ℕ) : Type 0 where
+  pub order : from ≤ stop
+  pub inside : stop ≤ length numbers
+  pub few : stop - from ≤ 65535
+  pub many : length (getD (lists-from numbers 0 ends) k []) ≡ stop - from
+  pub is : take (stop - from) (drop from numbers) ≡ getD (lists-from numbers 0 ends) k []
+
+pub listed : (numbers ends : List ℕ) (k from stop : ℕ) → Readable numbers ends → k < length ends → from ≡ getD (0 ∷ ends) k 0 → stop ≡ getD (0 ∷ ends) (k + 1) 0 → Listed numbers ends k from stop
+unfolding part
+listed numbers ends k from stop r lt starts next =
+    let stops = rw add-one at next in
+    let runs = list-runs numbers ends k r lt in
+    rw (starts, stops) (record { order = omega (arith, runs .order); inside = runs .inside; few = runs .few; many = runs .many; is = sym (runs .is) })
 
 -- number 0 is acceptance
 pub passed : (l : Lent) → number-of (lists-of l) ≡ 0 → lists-of l ≡ accepted (lists-from (l .numbers) 0 (l .ends))

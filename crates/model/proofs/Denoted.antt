@@ -86,7 +86,7 @@ member-in ls t x h = let l = member-at-leaf ls x t h in among-all x ls (l .numbe
 
 -- ---- the members, ascending
 
-insert-among : (x y : ℕ) (l : List ℕ) → among x (insert y l) ≡ eqb x y || among x l
+pub insert-among : (x y : ℕ) (l : List ℕ) → among x (insert y l) ≡ eqb x y || among x l
 unfolding insert among
 insert-among x y [] = refl
 insert-among x y (z ∷ zs) = go (ltb y z) (eqb y z) refl (insert-among x y zs)
@@ -107,7 +107,7 @@ insert-among x y (z ∷ zs) = go (ltb y z) (eqb y z) refl (insert-among x y zs)
     go false true h ih = rw (← eqb-true y z h) (twice (eqb x y) (among x zs))
     go false false h ih = swap (eqb x z) (eqb x y) (among x (insert y zs)) (among x zs) ih
 
-insert-up : (lo y : ℕ) (l : List ℕ) → lo ≤ y → y < top → Up lo l → Up lo (insert y l)
+pub insert-up : (lo y : ℕ) (l : List ℕ) → lo ≤ y → y < top → Up lo l → Up lo (insert y l)
 unfolding insert
 insert-up lo y [] h t u = (h, t, tt)
 insert-up lo y (z ∷ zs) h t u = go (ltb y z) refl (eqb y z) refl (λ q. insert-up (suc z) y zs q t (u .2))

@@ -152,6 +152,12 @@ module _ (ls : List (List ℕ)) (up : (k : ℕ) → Up 0 (getD ls k [])) (t : Tr
   unfolding run
   last-low b bt st cs h = from-begin b bt st cs h .ok .low
 
+-- a check by readers at the start says whether the number is a member
+pub first-check : (ls : List (List ℕ)) → ((k : ℕ) → Up 0 (getD ls k [])) → (t : Tree) → size t ≤ 48 → (d : ℕ) → d < top → (b : Bool) (rs : Readers) (moves : ℕ)
+    → says b rs ≡ check-node ls t 0 d (record { places = untouched; moves = moves }) → b ≡ member ls t d
+first-check ls up t st d dt b rs moves e =
+    (rw (sym e) at (check-is ls up t 0 d (record { places = untouched; moves = moves }) (omega arith) (omega arith))) .1 ∙ start ls untouched none-moved d t 0
+
 -- ---- between two calls, for what draws a next at a time
 
 -- a state that a run over ascending lists comes to

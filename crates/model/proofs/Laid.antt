@@ -59,7 +59,7 @@ up-numbers lo [] u i = omega arith
 up-numbers lo (x ∷ xs) u zero = u .1
 up-numbers lo (x ∷ xs) u (suc i) = up-numbers (suc x) xs (u .2) i
 
-numbers-append : (l m : List ℕ) → Numbers l → Numbers m → Numbers (l ++ m)
+pub numbers-append : (l m : List ℕ) → Numbers l → Numbers m → Numbers (l ++ m)
 numbers-append [] m hl hm i = hm i
 numbers-append (x ∷ xs) m hl hm zero = hl 0
 numbers-append (x ∷ xs) m hl hm (suc i) = numbers-append xs m (λ j. hl (suc j)) hm i

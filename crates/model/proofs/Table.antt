@@ -1,11 +1,11 @@
--- 01's table: P1 to P9 as one theorem about the definitions, and the small inputs of the refusal table as another.
--- Each side computes, so each proof is `refl`. Assumes nothing.
+-- 01's table: P1 to P9 as one theorem about the definitions, and the small inputs of the refusal table as another; behind
+-- them rows of the requests' calls. Each side computes, so each proof is `refl`. Assumes nothing.
 use mathlib.Core.Path.{_≡_, refl}
 use mathlib.Core.Bool.{true, false}
 use mathlib.Core.List.{List, [], _∷_, _++_, map, flatMap}
 use Prim.Native.Nat.{ℕ, zero, suc, _-_}
 use native.Mathlib.Omega.{arith}
-use Rattle.model.specs.Lists.{Numbers, lend}
+use Rattle.model.specs.Lists.{Numbers, Lent, lend}
 use lib.ListN.{replicate, length}
 use Rattle.model.specs.declared.Reply.{Reply}
 use Rattle.model.specs.declared.Reply.the-variants.{Member, Finished, Yes, No, Unknown}
@@ -24,6 +24,8 @@ use Rattle.model.specs.Delivery
 use Rattle.model.specs.Delivery.{by-count, read-stored, delivery, read-delivery}
 use Rattle.model.specs.Calls.{unpack-expression, pack-expression, decode-delivery, encode-delivery, run-size, run-call, ends-from}
 use Rattle.model.specs.Program.{halves, listing-of, listing, listed, list-members}
+use Rattle.model.specs.Update
+use Rattle.model.specs.Update.{Change, change, update, updated}
 
 -- opens the definitions: under `unfolding computes` each side of a table computes
 opens-lists : Unit {0}
@@ -50,8 +52,12 @@ opens-calls : Unit {0}
 unfolding unpack-expression pack-expression decode-delivery encode-delivery run-call ends-from listing listing-of halves listed list-members
 opens-calls = tt
 
+opens-update : Unit {0}
+unfolding update Update.update-of Update.fits Update.has-room Update.is-new Update.shows Update.same Update.new-lists Update.new-list Update.remove
+opens-update = tt
+
 computes : Unit {0}
-unfolding opens-lists opens-machine opens-steps opens-forms opens-delivery opens-calls
+unfolding opens-lists opens-machine opens-steps opens-forms opens-delivery opens-calls opens-update
 computes = tt
 
 -- the program's stored example: 01 00 04 00 0C 00 00 00 08 08
@@ -573,3 +579,116 @@ largest-input = refl
 pub example : listing stored-example ≡ accepted (record { members = 2 ∷ 3 ∷ 5 ∷ []; moves = 3 })
 unfolding computes
 example = refl
+
+-- ---- request One: the kept row, over two lists and their difference, or one list
+
+-- a call of it, but for the change
+pub record Shown : Type 0 where
+  pub lent : Lent
+  pub expression : List ℕ
+  pub kept : List ℕ
+  pub count : ℕ
+
+abbrev pub shown-two : List ℕ → List ℕ → List ℕ → ℕ → Shown
+shown-two numbers ends kept count = record { lent = lend numbers ends; expression = 0x40 ∷ 0x01 ∷ []; kept = kept; count = count }
+
+abbrev pub shown-one : List ℕ → List ℕ → List ℕ → ℕ → Shown
+shown-one numbers ends kept count = record { lent = lend numbers ends; expression = 0x00 ∷ []; kept = kept; count = count }
+
+abbrev pub changes : Shown → Change → Sent
+changes h c = update (h .lent) (h .expression) c (h .kept) (h .count)
+
+-- 2 5 6 without 3 6, with 9 8 behind the last end and 7s behind the members. Added to the first list, a member comes, and
+-- none; added to the subtracted one, a member goes, and none; removed from the first, a member goes, and none; removed
+-- from the subtracted one, a member comes, and none
+pub updates :
+    map (changes (shown-two (2 ∷ 5 ∷ 6 ∷ 3 ∷ 6 ∷ 9 ∷ 8 ∷ []) (3 ∷ 5 ∷ []) (2 ∷ 5 ∷ 7 ∷ 7 ∷ []) 2))
+    (change 0 4 1 ∷ change 0 3 255 ∷ change 1 2 1 ∷ change 1 4294967295 1 ∷ change 0 2 0 ∷ change 0 6 0 ∷ change 1 6 0 ∷ change 1 3 0 ∷ [])
+    ≡
+    updated 0 (2 ∷ 4 ∷ 5 ∷ 6 ∷ 3 ∷ 6 ∷ 8 ∷ []) (4 ∷ 6 ∷ []) (2 ∷ 4 ∷ 5 ∷ 7 ∷ []) 3 ∷
+    updated 0 (2 ∷ 3 ∷ 5 ∷ 6 ∷ 3 ∷ 6 ∷ 8 ∷ []) (4 ∷ 6 ∷ []) (2 ∷ 5 ∷ 7 ∷ 7 ∷ []) 2 ∷
+    updated 0 (2 ∷ 5 ∷ 6 ∷ 2 ∷ 3 ∷ 6 ∷ 8 ∷ []) (3 ∷ 6 ∷ []) (5 ∷ 5 ∷ 7 ∷ 7 ∷ []) 1 ∷
+    updated 0 (2 ∷ 5 ∷ 6 ∷ 3 ∷ 6 ∷ 4294967295 ∷ 8 ∷ []) (3 ∷ 6 ∷ []) (2 ∷ 5 ∷ 7 ∷ 7 ∷ []) 2 ∷
+    updated 0 (5 ∷ 6 ∷ 3 ∷ 6 ∷ 6 ∷ 9 ∷ 8 ∷ []) (2 ∷ 4 ∷ []) (5 ∷ 5 ∷ 7 ∷ 7 ∷ []) 1 ∷
+    updated 0 (2 ∷ 5 ∷ 3 ∷ 6 ∷ 6 ∷ 9 ∷ 8 ∷ []) (2 ∷ 4 ∷ []) (2 ∷ 5 ∷ 7 ∷ 7 ∷ []) 2 ∷
+    updated 0 (2 ∷ 5 ∷ 6 ∷ 3 ∷ 6 ∷ 9 ∷ 8 ∷ []) (3 ∷ 4 ∷ []) (2 ∷ 5 ∷ 6 ∷ 7 ∷ []) 3 ∷
+    updated 0 (2 ∷ 5 ∷ 6 ∷ 6 ∷ 6 ∷ 9 ∷ 8 ∷ []) (3 ∷ 4 ∷ []) (2 ∷ 5 ∷ 7 ∷ 7 ∷ []) 2 ∷ []
+unfolding computes
+updates = refl
+
+-- the first number of a list, into the only place, and taken out again; rows that are full, and need no place more: a
+-- member goes as a number comes, and a number goes that was no member
+pub updates-fit :
+    changes (shown-one (7 ∷ []) (0 ∷ []) (7 ∷ []) 0) (change 0 0 1) ∷
+    changes (shown-one (0 ∷ []) (1 ∷ []) (0 ∷ []) 1) (change 0 0 0) ∷
+    changes (shown-two (5 ∷ 7 ∷ []) (1 ∷ 1 ∷ []) (5 ∷ []) 1) (change 1 5 1) ∷
+    changes (shown-two (5 ∷ 6 ∷ 6 ∷ []) (2 ∷ 3 ∷ []) (5 ∷ []) 1) (change 0 6 0) ∷ []
+    ≡
+    updated 0 (0 ∷ []) (1 ∷ []) (0 ∷ []) 1 ∷
+    updated 0 (0 ∷ []) (0 ∷ []) (0 ∷ []) 0 ∷
+    updated 0 (5 ∷ 5 ∷ []) (1 ∷ 2 ∷ []) (5 ∷ []) 0 ∷
+    updated 0 (5 ∷ 6 ∷ 6 ∷ []) (1 ∷ 2 ∷ []) (5 ∷ []) 1 ∷ []
+unfolding computes
+updates-fit = refl
+
+-- a call and the number that refuses it
+pub record Refused-update : Type 0 where
+  pub number : ℕ
+  pub shown : Shown
+  pub change : Change
+
+-- then all four rows are as they were
+abbrev pub Refused-updates : List Refused-update → Type 0
+Refused-updates rs =
+    map (λ r. changes (r .shown) (r .change)) rs
+    ≡ map (λ r. updated (r .number) (r .shown .lent .numbers) (r .shown .lent .ends) (r .shown .kept) (r .shown .count)) rs
+
+abbrev refuses-update : ℕ → Shown → Change → Refused-update
+refuses-update n h c = record { number = n; shown = h; change = c }
+
+-- 4 for the list; 17 for a count too low and too high, another row, a row in another order, rows that are shorter than
+-- the count; 15 both ways, also where the number stands in the other list alone; 6 with no place behind the last end, and
+-- with none in the kept row, adding and removing
+abbrev refused-ones : List Refused-update
+refused-ones =
+    refuses-update 4 (two (2 ∷ 5 ∷ []) 2) (change 2 4 1) ∷
+    refuses-update 17 (two (2 ∷ 5 ∷ []) 1) (change 0 4 1) ∷
+    refuses-update 17 (two (2 ∷ 5 ∷ 7 ∷ []) 3) (change 0 4 1) ∷
+    refuses-update 17 (two (2 ∷ 6 ∷ []) 2) (change 0 4 1) ∷
+    refuses-update 17 (two (5 ∷ 2 ∷ []) 2) (change 0 4 1) ∷
+    refuses-update 17 (two (2 ∷ []) 2) (change 0 2 0) ∷
+    refuses-update 17 (two (2 ∷ 5 ∷ []) 3) (change 0 2 0) ∷
+    refuses-update 15 (two (2 ∷ 5 ∷ []) 2) (change 0 5 1) ∷
+    refuses-update 15 (two (2 ∷ 5 ∷ []) 2) (change 0 3 0) ∷
+    refuses-update 6 (shown-one (5 ∷ []) (1 ∷ []) (5 ∷ 7 ∷ []) 1) (change 0 4 1) ∷
+    refuses-update 6 (two (2 ∷ 5 ∷ []) 2) (change 0 4 1) ∷
+    refuses-update 6 (two (2 ∷ 5 ∷ []) 2) (change 1 6 0) ∷ []
+  where
+    two : List ℕ → ℕ → Shown
+    two = shown-two (2 ∷ 5 ∷ 6 ∷ 3 ∷ 6 ∷ 9 ∷ 8 ∷ []) (3 ∷ 5 ∷ [])
+
+pub update-refusals : Refused-updates refused-ones
+unfolding computes
+update-refusals = refl
+
+-- 16 at 65,535 numbers, not at 65,534, and not on removing
+pub update-longest :
+    Update.has-room (change 0 7 1) (replicate 65535 0 ∷ []) ∷ Update.has-room (change 0 7 1) (replicate 65534 0 ∷ []) ∷
+    Update.has-room (change 0 7 0) (replicate 65535 0 ∷ []) ∷ [] ≡ false ∷ true ∷ true ∷ []
+unfolding computes
+update-longest = refl
+
+-- "tested after the lists and the expression": 11 before 1; 5 before 4 for the list, "straight after the expression's own
+-- tests"; then 4 before 17, "in the order 17, 15, 16, then 6"
+abbrev order-ones : List Refused-update
+order-ones =
+    refuses-update 11 (record { lent = lend (5 ∷ 5 ∷ []) (2 ∷ []); expression = []; kept = []; count = 1 }) (change 1 5 1) ∷
+    refuses-update 5 (record { lent = lend (5 ∷ []) (1 ∷ []); expression = 0x01 ∷ []; kept = []; count = 1 }) (change 1 5 1) ∷
+    refuses-update 4 (shown-one (5 ∷ []) (1 ∷ []) (5 ∷ []) 0) (change 1 5 1) ∷
+    refuses-update 17 (shown-one (5 ∷ []) (1 ∷ []) (5 ∷ []) 0) (change 0 5 1) ∷
+    refuses-update 17 (shown-one (5 ∷ []) (1 ∷ []) (5 ∷ []) 0) (change 0 4 1) ∷
+    refuses-update 15 (shown-one (5 ∷ []) (1 ∷ []) (5 ∷ []) 1) (change 0 5 1) ∷ []
+
+pub order-updates : Refused-updates order-ones
+unfolding computes
+order-updates = refl

@@ -12,8 +12,10 @@ use Rattle.model.specs.declared.Node.the-variants.{Leaf, Difference, Uni
 use Rattle.model.specs.Outcome.{Outcome, refused, accepted, _>>=_, _>>_, require, number-of, Success, sent}
 use Rattle.model.specs.Lists.{top, all-ascending, lists-from, count-holds, ends-hold, Lent, lists-of}
 use Rattle.model.specs.Expression.{Tree}
+use Rattle.model.specs.Run.{named-in, source-of}
 use Rattle.model.specs.Fields.{bits, take-field, only-fill}
 use Rattle.model.specs.Forms.{node-of, take-byte, take-rest, take-kind, take-node, Leaf-test, there, read-members, operator, read-below, read-tree, read-row, read-packed}
+use Rattle.model.specs.Update.{Change, shown, changed, shows, is-new, has-room, fits, update-of}
 use Rattle.model.proofs.Accepted.{never-accepted}
 use Rattle.model.specs.Delivery.{largest-gap, width, read-gaps, read-body, Form, by-count, read-list, read-lists, read-in, read-delivery}
 
@@ -57,7 +59,7 @@ unfolding number-of
 refused-by (refused n) h = refl
 refused-by (accepted a) h = absurd (h refl)
 
-sent-number : (parts : ℕ) (rows : List (List ℕ)) (o : Outcome Success) → number-of o ≡ sent parts rows o .number
+pub sent-number : (parts : ℕ) (rows : List (List ℕ)) (o : Outcome Success) → number-of o ≡ sent parts rows o .number
 unfolding number-of sent
 sent-number parts rows (refused n) = refl
 sent-number parts rows (accepted s) = refl

@@ -13,3 +13,6 @@ pub mod Delivery
 pub mod Calls
 pub mod Program
 pub mod Demands
+-- The change requests, each with its call and its promise.
+pub mod Update
+pub mod RequestOne

@@ -1,19 +1,33 @@
 -- A page, turn by turn. Assumes nothing.
 use mathlib.Core.Path.{_≡_, refl, sym, ap, ap₂, _∙_}
+use mathlib.Core.Logic.{inl, inr}
 use mathlib.Core.Bool.{true, false}
 use mathlib.Core.List.{List, [], _∷_}
 use Prim.Native.Nat.{ℕ, suc, _+_, _-_, _≤_, _<_}
 use native.Mathlib.Nat.{add-zero, zero-add}
 use native.Mathlib.Omega.{arith}
+use denote.Enum.Declared.{tagOf}
+use types.Run.{OneOf}
 use lib.ListN.{length, set, length-set}
 use Rattle.model.specs.declared.Reply.{Reply}
 use Rattle.model.specs.declared.Reply.the-variants.{Member, Finished, Yes, No, Unknown}
+use Rattle.model.proofs.Reply.{the-type}
 use Rattle.model.specs.Expression.{Tree}
 use Rattle.model.specs.Steps.{seek}
 use Rattle.model.specs.Run.{State, drawn, step}
 use Rattle.fields.specs.Rows.{lay}
 use Rattle.fields.proofs.Rows.{lay-nil, lay-cons}
 use Rattle.pages.specs.Pages.{Drawing, go-on, page, Handed, laid-down}
+
+-- a reply that is none of the first variant, as a match tells it, is no member
+tagged : (n : ℕ) → OneOf (1 ∷ 2 ∷ 3 ∷ 4 ∷ []) n → 1 ≤ n
+tagged n (inl e) = omega arith
+tagged n (inr (inl e)) = omega arith
+tagged n (inr (inr (inl e))) = omega arith
+tagged n (inr (inr (inr e))) = omega arith
+
+pub no-member : (r : Reply) → OneOf (1 ∷ 2 ∷ 3 ∷ 4 ∷ []) (tagOf the-type r) → (x : ℕ) → r ≡ Member x → ⊥
+no-member r h x e = omega (arith, tagged (tagOf the-type r) h, ap (tagOf the-type) e)
 
 -- a drawing laid down from place i on
 abbrev placed : Drawing → List ℕ → ℕ → Handed

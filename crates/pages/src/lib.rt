@@ -1,4 +1,5 @@
-// A page of members: drawn by next into a row, all of them, or so many, or until finished. Whatever draws members draws them by this.
+// A page of members: drawn by next into a row, all of them, or so many, or until finished. Whatever draws members into a row
+// draws them by this.
 ghost use Prim.Native.Nat.{_≤_};
 ghost use lib.ListN.{length};
 ghost use Rattle.model.specs.Lists.{top};

@@ -6,6 +6,8 @@ ghost use Rattle.model.specs.Lists.{lend, span-of};
 ghost use Rattle.model.specs.Run.{starting};
 ghost use Rattle.model.specs.Calls.{written, delivered, ran, unpack-expression, pack-expression, decode-delivery, encode-delivery, run-call};
 ghost use Rattle.model.specs.Demands.{Third-demand-met};
+ghost use Rattle.model.specs.Update.{change, update, updated};
+ghost use Rattle.model.specs.RequestOne.{Request-one-met};
 ghost use Rattle.lists.specs.Span.{span-says};
 use lists::Span;
 use model::DecodeResult;
@@ -83,4 +85,22 @@ pub extern "C" fn zwailmoor_run(
     ensures demand { λ r. ⌜ Third-demand-met (lend (now (numbers .entry)) (now (ends .entry))) (now (packed .entry)) (starting bookmark) (now (codes .entry)) (now (arguments .entry)) (now (replies .entry)) (ran r (now (replies .exit))) ⌝ }
 {
     engine::run(numbers, ends, packed, bookmark, codes, arguments, replies)
+}
+
+// Adds a number to a list or removes it from it, and brings a kept row of members and its count up to date.
+#[no_mangle]
+pub extern "C" fn zwailmoor_update(
+    numbers: &mut [u32],
+    ends: &mut [u32],
+    packed: &[u8],
+    list: usize,
+    number: u32,
+    add: u8,
+    members: &mut [u32],
+    count: &mut usize,
+) -> u32
+    ensures call { λ r. ⌜ updated r (now (numbers .exit)) (now (ends .exit)) (now (members .exit)) (now (count .exit)) ≡ update (lend (now (numbers .entry)) (now (ends .entry))) (now (packed .entry)) (change list number add) (now (members .entry)) (now (count .entry)) ⌝ }
+    ensures request { λ r. ⌜ Request-one-met (lend (now (numbers .entry)) (now (ends .entry))) (now (packed .entry)) (change list number add) (now (members .entry)) (now (count .entry)) (updated r (now (numbers .exit)) (now (ends .exit)) (now (members .exit)) (now (count .exit))) ⌝ }
+{
+    update::update(numbers, ends, packed, list, number, add, members, count)
 }

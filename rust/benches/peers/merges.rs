@@ -66,3 +66,13 @@ fn difference(a: &[u32], b: &[u32]) -> Vec<u32> {
     }
     out
 }
+
+/// Whether one number is a member, by looking it up in the lists of the leaves.
+pub fn contains(tree: &Tree, lists: &[Vec<u32>], d: u32) -> bool {
+    match tree {
+        Tree::List(number) => lists[usize::from(*number)].binary_search(&d).is_ok(),
+        Tree::Difference(pair) => contains(&pair[0], lists, d) && !contains(&pair[1], lists, d),
+        Tree::Union(nodes) => nodes.iter().any(|node| contains(node, lists, d)),
+        Tree::Intersection(nodes) => nodes.iter().all(|node| contains(node, lists, d)),
+    }
+}

@@ -11,7 +11,7 @@ pub struct RunResult {
 const TOP: u64 = 1 << 32;
 
 /// One list and how far it has been read.
-struct Reader<'a> {
+pub struct Reader<'a> {
     list: &'a [u32],
     place: usize,
 }
@@ -28,7 +28,7 @@ impl Reader<'_> {
     }
 }
 
-enum Node<'a> {
+pub enum Node<'a> {
     List(Reader<'a>),
     Difference(Box<[Node<'a>; 2]>),
     Union(Vec<Node<'a>>),
@@ -39,7 +39,7 @@ impl Node<'_> {
     /// The least number not below `to` that the node answers, if it is not finished. Inlined into the operators' loops, and
     /// these are not, so that a list among their members costs no call: measured, a fifth to a third of the time.
     #[inline(always)]
-    fn seek(&mut self, to: u64) -> Option<u32> {
+    pub fn seek(&mut self, to: u64) -> Option<u32> {
         match self {
             Node::List(reader) => reader.seek(to),
             Node::Difference(pair) => seek_difference(pair, to),
@@ -48,7 +48,7 @@ impl Node<'_> {
         }
     }
 
-    fn check(&mut self, d: u32) -> bool {
+    pub fn check(&mut self, d: u32) -> bool {
         match self {
             Node::List(reader) => reader.seek(d.into()) == Some(d),
             Node::Difference(pair) => pair[0].check(d) && !pair[1].check(d),
@@ -169,7 +169,7 @@ impl Machine<'_> {
 }
 
 /// The lists as parts of the lent row, or the first of 7, 10 and 11 that refuses them.
-fn test_lists<'a>(numbers: &'a [u32], ends: &[u32]) -> Result<Vec<&'a [u32]>, u32> {
+pub fn test_lists<'a>(numbers: &'a [u32], ends: &[u32]) -> Result<Vec<&'a [u32]>, u32> {
     if ends.is_empty() || ends.len() > 32 {
         return Err(7);
     }
@@ -247,6 +247,17 @@ impl<'a> Parser<'_, 'a> {
     }
 }
 
+/// The tree of an expression over lists.
+pub fn tree<'a>(packed: &[u8], lists: &[&'a [u32]]) -> Result<Node<'a>, u32> {
+    let mut parser = Parser {
+        packed,
+        bit: 0,
+        nodes: 0,
+        lists,
+    };
+    parser.expression()
+}
+
 /// A run: the tests, then the calls, each with the floor and readers that the call before it left.
 pub fn run(
     numbers: &[u32],
@@ -258,13 +269,7 @@ pub fn run(
     replies: &mut [u64],
 ) -> Result<RunResult, u32> {
     let lists = test_lists(numbers, ends)?;
-    let mut parser = Parser {
-        packed,
-        bit: 0,
-        nodes: 0,
-        lists: &lists,
-    };
-    let root = parser.expression()?;
+    let root = tree(packed, &lists)?;
     if bookmark > TOP {
         return Err(12);
     }

@@ -1,8 +1,9 @@
-//! The paper's small inputs and examples, and the iterator.
+//! The paper's small inputs and examples, the iterator, and changes.
 
 mod members;
 mod paper;
 mod refusals;
+mod updates;
 
 use crate::{run, Call, Refusal, Reply, RunResult};
 

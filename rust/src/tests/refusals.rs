@@ -149,7 +149,7 @@ fn runs() {
 
 #[test]
 fn numbers_and_sentences() {
-    assert!(Refusal::ALL.iter().map(|refusal| refusal.number()).eq(1..=14));
+    assert!(Refusal::ALL.iter().map(|refusal| refusal.number()).eq(1..=17));
     let mut sentences = std::collections::HashSet::new();
     for refusal in Refusal::ALL {
         assert_eq!(Refusal::test(refusal.number()), Err(*refusal));
@@ -161,5 +161,5 @@ fn numbers_and_sentences() {
 #[test]
 #[should_panic(expected = "stands for nothing")]
 fn a_number_that_stands_for_nothing() {
-    let _ = Refusal::test(15);
+    let _ = Refusal::test(18);
 }

@@ -1,9 +1,9 @@
 //! Deliveries read and written, and the part of one list.
 
 use crate::evaluator::delivery as model;
-use crate::evaluator::lists::{self, Lists};
+use crate::evaluator::lists::{self, lent, Lists};
 use crate::ffi;
-use crate::inputs::{delivery, lent, lent_lists, long_list, longest, room, some_lists};
+use crate::inputs::{delivery, lent_lists, long_list, longest, room, some_lists};
 use crate::random::{cases, seed, Random};
 use crate::rows::Lent;
 use crate::tally::Tally;

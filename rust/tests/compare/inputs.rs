@@ -4,7 +4,7 @@ use std::collections::BTreeSet;
 
 use crate::evaluator::bits::Writer;
 use crate::evaluator::delivery::{least_width, write_list};
-use crate::evaluator::lists::Lists;
+use crate::evaluator::lists::{lent, Lists};
 use crate::random::Random;
 
 /// Lengths about what is needed: too short, exact, longer.
@@ -118,6 +118,16 @@ pub fn packed_anyway(row: &[u8]) -> Vec<u8> {
     bits.bytes()
 }
 
+/// A packed expression over so many lists: mostly good, sometimes over one list more, or damaged.
+pub fn packed(random: &mut Random, lists: usize) -> Vec<u8> {
+    let over = if random.one_in(20) { lists + 1 } else { lists };
+    let mut bytes = packed_anyway(&expression_row(random, over));
+    if random.one_in(12) {
+        damage(random, &mut bytes);
+    }
+    bytes
+}
+
 /// Bytes with something done to them: a bit turned, an end cut off or put on, a byte changed.
 pub fn damage(random: &mut Random, bytes: &mut Vec<u8>) {
     match random.below(8) {
@@ -156,6 +166,15 @@ pub fn number(random: &mut Random) -> u32 {
     }
 }
 
+/// A number among the lent ones and beside them, or anywhere.
+pub fn number_near(random: &mut Random, numbers: &[u32]) -> u32 {
+    if numbers.is_empty() || random.one_in(3) {
+        return number(random);
+    }
+    let lent = random.pick(numbers);
+    random.pick(&[lent, lent, lent.wrapping_add(1), lent.wrapping_sub(1)])
+}
+
 /// An ascending list, seldom long.
 pub fn list(random: &mut Random) -> Vec<u32> {
     let size = match random.below(12) {
@@ -189,18 +208,6 @@ pub fn long_list(random: &mut Random) -> Vec<u32> {
     let first = random.pick(&[0, high]);
     let step = random.between(1, 2) as u32;
     (0..size).map(|i| first + step * i).collect()
-}
-
-/// Lists one after the other, and their ends.
-pub fn lent(lists: &[Vec<u32>]) -> Lists {
-    let ends = lists.iter().scan(0, |end, list| {
-        *end += list.len() as u32;
-        Some(*end)
-    });
-    Lists {
-        numbers: lists.concat(),
-        ends: ends.collect(),
-    }
 }
 
 /// The longest list's length, of accepted lists.

@@ -11,6 +11,7 @@ mod random;
 mod rows;
 mod runs;
 mod tally;
+mod updates;
 
 // The C calls themselves: the wrapper does not show what a refusal leaves in the other parts of the result.
 #[path = "../../src/ffi.rs"]
@@ -25,6 +26,7 @@ fn every_refusal_belongs_to_a_call() {
         deliveries::DECODE_REFUSALS,
         deliveries::ENCODE_REFUSALS,
         runs::REFUSALS,
+        updates::REFUSALS,
     ];
     let mut met = calls.concat();
     met.sort();

@@ -1,4 +1,4 @@
-//! Rows to lend: filled with a pattern, in the middle of a longer one, so that every write outside is seen.
+//! Rows to lend, in the middle of a longer one that is filled with a pattern, so that every write outside is seen.
 
 use std::fmt::Debug;
 
@@ -27,16 +27,33 @@ impl Element for u64 {
     }
 }
 
-/// A row of so many places between two margins.
+impl Element for usize {
+    fn pattern(i: usize) -> Self {
+        u64::pattern(i) as usize
+    }
+}
+
+/// A row of so many places between two margins, and all of it as it was.
 pub struct Lent<T> {
     all: Vec<T>,
+    before: Vec<T>,
     places: usize,
 }
 
 impl<T: Element> Lent<T> {
+    /// A row that holds the pattern too.
     pub fn new(places: usize) -> Self {
-        let all = (0..places + 2 * MARGIN).map(T::pattern).collect();
-        Lent { all, places }
+        let all: Vec<T> = (0..places + 2 * MARGIN).map(T::pattern).collect();
+        let before = all.clone();
+        Lent { all, before, places }
+    }
+
+    /// A row that holds these elements.
+    pub fn holding(elements: &[T]) -> Self {
+        let mut lent = Lent::new(elements.len());
+        lent.row().copy_from_slice(elements);
+        lent.before.clone_from(&lent.all);
+        lent
     }
 
     pub fn row(&mut self) -> &mut [T] {
@@ -47,7 +64,7 @@ impl<T: Element> Lent<T> {
     pub fn holds(&self, written: &[T]) -> bool {
         let expected = |i: usize| match i.checked_sub(MARGIN).and_then(|place| written.get(place)) {
             Some(element) => *element,
-            None => T::pattern(i),
+            None => self.before[i],
         };
         written.len() <= self.places && self.all.iter().enumerate().all(|(i, element)| *element == expected(i))
     }

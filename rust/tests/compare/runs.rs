@@ -1,9 +1,9 @@
 //! Runs, whole and broken off, and the iterator over pages.
 
-use crate::evaluator::lists::Lists;
+use crate::evaluator::lists::{lent, Lists};
 use crate::evaluator::{self, Begin, RunResult, TOP};
 use crate::ffi;
-use crate::inputs::{damage, expression_row, lent, lent_lists, long_list, longest, number, packed_anyway, some_lists};
+use crate::inputs::{lent_lists, long_list, longest, number, number_near, packed, some_lists};
 use crate::random::{cases, seed, Random};
 use crate::rows::Lent;
 use crate::tally::Tally;
@@ -45,15 +45,6 @@ fn begin(random: &mut Random) -> Begin {
     }
 }
 
-/// A call's argument: among the lent numbers and beside them, or anywhere.
-fn argument(random: &mut Random, numbers: &[u32]) -> u32 {
-    if numbers.is_empty() || random.one_in(3) {
-        return number(random);
-    }
-    let lent = random.pick(numbers);
-    random.pick(&[lent, lent, lent.wrapping_add(1), lent.wrapping_sub(1)])
-}
-
 fn calls(random: &mut Random, numbers: &[u32]) -> (Vec<u8>, Vec<u32>) {
     let count = if random.one_in(20) {
         random.between(20, 60)
@@ -70,18 +61,9 @@ fn calls(random: &mut Random, numbers: &[u32]) -> (Vec<u8>, Vec<u32>) {
     let mut arguments = Vec::new();
     for _ in 0..count {
         codes.push(call(random));
-        arguments.push(argument(random, numbers));
+        arguments.push(number_near(random, numbers));
     }
     (codes, arguments)
-}
-
-fn packed(random: &mut Random, lists: usize) -> Vec<u8> {
-    let over = if random.one_in(20) { lists + 1 } else { lists };
-    let mut bytes = packed_anyway(&expression_row(random, over));
-    if random.one_in(12) {
-        damage(random, &mut bytes);
-    }
-    bytes
 }
 
 fn case(number: u64) -> Run {

@@ -3,10 +3,13 @@
 use std::collections::BTreeMap;
 use std::io::{stdout, Write};
 
+/// All refusals, and 0.
+const NUMBERS: usize = zwailmoor::Refusal::ALL.len() + 1;
+
 #[derive(Default)]
 pub struct Tally {
     // By number; 0 counts what was accepted.
-    numbers: [u64; 15],
+    numbers: [u64; NUMBERS],
     edges: BTreeMap<&'static str, u64>,
 }
 
@@ -23,7 +26,7 @@ impl Tally {
     /// Prints the counts, and asserts that these refusals were met, success too, and no others.
     pub fn close(&self, call: &str, seed: u64, refusals: &[usize]) {
         let met = |number: &usize| self.numbers[*number] > 0;
-        let refused = (1..15)
+        let refused = (1..NUMBERS)
             .filter(met)
             .map(|number| format!("{number}: {}", self.numbers[number]));
         let edges = self.edges.iter().map(|(name, count)| format!("{name}: {count}"));
@@ -34,7 +37,7 @@ impl Tally {
             refused.collect::<Vec<_>>().join(", "),
             edges.collect::<Vec<_>>().join(", "),
         ));
-        let numbers: Vec<usize> = (0..15).filter(met).collect();
+        let numbers: Vec<usize> = (0..NUMBERS).filter(met).collect();
         let expected: Vec<usize> = [&[0], refusals].concat();
         assert_eq!(
             numbers, expected,

@@ -1,23 +1,16 @@
 -- `draw_page` meets its contract. The loop's invariant, said backwards: what is handed back from here on is what is handed back
 -- from the start. The measure is how many places are left. Assumes nothing.
-use mathlib.Core.Path.{_≡_, refl, ap, _∙_}
-use mathlib.Core.Logic.{inl, inr}
-use mathlib.Core.List.{[], _∷_}
+use mathlib.Core.Path.{_≡_, refl, _∙_}
 use Prim.Native.Nat.{ℕ, _-_, _≤_}
 use native.Mathlib.Omega.{arith}
 use borrow.Author.Needs.{needs}
-use denote.Enum.Declared.{tagOf}
-use types.Run.{OneOf}
 use lib.ListN.{length, length-set}
 use Rattle.model.specs.Lists.{top, lists-from}
 use Rattle.model.specs.Expression.{Tree}
-use Rattle.model.specs.declared.Reply.{Reply}
-use Rattle.model.specs.declared.Reply.the-variants.{Member}
-use Rattle.model.proofs.Reply.{the-type}
 use Rattle.reader.specs.Rows.{Stands}
 use Rattle.reader.specs.Sought.{Tallied}
 use Rattle.engine.specs.States.{state-of, stepped-of}
-use Rattle.pages.proofs.Pages.{hands, hands-start, hands-full, hands-member, hands-ended}
+use Rattle.pages.proofs.Pages.{no-member, hands, hands-start, hands-full, hands-member, hands-ended}
 use Rattle.pages.proofs.draw_page.Statement.{statement}
 use Rattle.pages.proofs.draw_page.Tie as tie
 
@@ -28,16 +21,6 @@ Inv-loop numbers ends nodes behind bookmark row₀ readers₀ floor₀ i₀ row 
 
 abbrev μ-loop : tie.MeasureT-loop
 μ-loop numbers ends nodes behind bookmark row₀ readers₀ floor₀ i₀ row readers floor i = length row - i
-
--- a reply that is none of the first variant is no member
-tagged : (n : ℕ) → OneOf (1 ∷ 2 ∷ 3 ∷ 4 ∷ []) n → 1 ≤ n
-tagged n (inl e) = omega arith
-tagged n (inr (inl e)) = omega arith
-tagged n (inr (inr (inl e))) = omega arith
-tagged n (inr (inr (inr e))) = omega arith
-
-no-member : (r : Reply) → OneOf (1 ∷ 2 ∷ 3 ∷ 4 ∷ []) (tagOf the-type r) → (x : ℕ) → r ≡ Member x → ⊥
-no-member r h x e = omega (arith, tagged (tagOf the-type r) h, ap (tagOf the-type) e)
 
 loop-holds : tie.Need-loop-holds Inv-loop μ-loop
 loop-holds c = let e = c .before .before .before in (e .pre .1 .1 .0, e .pre .1 .1 .1, refl, λ t h. refl)

@@ -1,47 +1,32 @@
 -- `read_list` meets its contract: list k is the run of numbers that the reader gets, and the reader stops where the step does.
 -- Assumes nothing.
 use borrow.Author.Needs.{needs}
-use mathlib.Core.Path.{_≡_, sym, ap, ap₂, _∙_}
+use mathlib.Core.Path.{ap, ap₂, _∙_}
 use mathlib.Core.List.{List, []}
 use Prim.Native.Nat.{ℕ, _+_, _-_, _≤_, _<_}
 use native.Mathlib.Omega.{arith}
-use native.Mathlib.Numerals.{add-one}
-use lib.ListN.{length, getD, take, drop}
-use Rattle.model.specs.Lists.{top, part, lists-from}
+use lib.ListN.{getD, drop}
+use Rattle.model.specs.Lists.{top, lists-from}
 use Rattle.model.specs.Steps.{passed}
-use Rattle.lists.proofs.Spans.{list-runs}
+use Rattle.lists.proofs.Spans.{Listed, listed}
 use Rattle.reader.proofs.Moves.{Stopped, one-by-one, stopped}
 use Rattle.reader.proofs.read_list.Statement.{statement}
 use Rattle.reader.proofs.read_list.Tie as tie
 
--- list k runs from `from` to `stop` in the numbers
-record Listed (numbers ends : List ℕ) (k from stop : ℕ) : Type 0 where
-  order : from ≤ stop
-  inside : stop ≤ length numbers
-  few : stop - from ≤ 65535
-  many : length (getD (lists-from numbers 0 ends) k []) ≡ stop - from
-  is : take (stop - from) (drop from numbers) ≡ getD (lists-from numbers 0 ends) k []
-
-listed : (c : tie.After-start-of2) → let args = c .before .before .before .before .args in Listed (args .numbers .now) (args .ends .now) (args .k) (c .before .start-of .result) (c .start-of2 .result)
-unfolding part
-listed c =
-    let start = c .before .before .before .before in
-    let args = start .args in
-    let from = c .before .start-of .ensures in
-    let stop = rw add-one at (c .start-of2 .ensures) in
-    let r = list-runs (args .numbers .now) (args .ends .now) (args .k) (start .pre .0) (start .pre .1 .0) in
-    rw (from, stop) (record { order = omega (arith, r .order); inside = r .inside; few = r .few; many = r .many; is = sym (r .is) })
+-- list k runs from where `start_of` says in the numbers
+here : (c : tie.After-start-of2) → let args = c .before .before .before .before .args in Listed (args .numbers .now) (args .ends .now) (args .k) (c .before .start-of .result) (c .start-of2 .result)
+here c = let start = c .before .before .before .before in listed _ _ (start .args .k) _ _ (start .pre .0) (start .pre .1 .0) (c .before .start-of .ensures) (c .start-of2 .ensures)
 
 -- the reader stops where the step does
 stops : (c : tie.After-moved) → let args = c .before .before .before .before .before .before .before .args in Stopped (getD (lists-from (args .numbers .now) 0 (args .ends .now)) (args .k) []) (args .place) (args .to) (c .moved .result) (c .moved .result - args .place)
 stops c =
     let args = c .before .before .before .before .before .before .before .args in
-    let is = c .moved .ensures ∙ ap₂ (λ (b : ℕ) (l : List ℕ). b + passed (drop b l) (args .to)) (c .before .index .ensures .0) (listed (c .before .before .before) .is) in
+    let is = c .moved .ensures ∙ ap₂ (λ (b : ℕ) (l : List ℕ). b + passed (drop b l) (args .to)) (c .before .index .ensures .0) (here (c .before .before .before) .is) in
     stopped _ (args .place) (args .to) (c .moved .result) _ is (one-by-one _ (args .place) (args .to) (c .moved .result) is)
 
 few : (c : tie.After-moved) → c .moved .result ≤ 65535
 few c =
-    let l = listed (c .before .before .before) in
+    let l = here (c .before .before .before) in
     stops c .small (omega (arith, c .before .index .ensures .0, c .before .index .ensures .1)) (omega (arith, l .many, l .few))
 
 start-of-requires : tie.Need-start-of-requires
@@ -54,16 +39,16 @@ start-of-requires-2 : tie.Need-start-of-requires-2
 start-of-requires-2 c κs = search needs
 
 mul-list : tie.Need-mul-list
-mul-list c = omega (arith, listed c .order, listed c .inside)
+mul-list c = omega (arith, here c .order, here c .inside)
 
 sub-list : tie.Need-sub-list
-sub-list c = omega (arith, listed c .order, listed c .inside)
+sub-list c = omega (arith, here c .order, here c .inside)
 
 part-list-start : tie.Need-part-list-start
-part-list-start c = omega (arith, listed c .order, listed c .inside)
+part-list-start c = omega (arith, here c .order, here c .inside)
 
 part-list-end : tie.Need-part-list-end
-part-list-end c = omega (arith, listed c .order, listed c .inside)
+part-list-end c = omega (arith, here c .order, here c .inside)
 
 index-requires : tie.Need-index-requires
 index-requires c κs = search needs
@@ -93,7 +78,7 @@ returns : tie.Need-returns
 returns c =
     let p = c .before .before .before in
     let d = p .before .before in
-    let l = listed (d .before .before .before) in
+    let l = here (d .before .before .before) in
     let number = c .wide .ensures ∙ ap (λ (xs : List ℕ). getD xs (d .moved .result) 0) (l .is) in
     let low : c .wide .result < top = omega (arith, c .wide .ensures, c .before .shared-slice-known3 .given (d .moved .result) .fits) in
     rw (p .place-of .ensures, p .before .moves-of .ensures, d .before .index .ensures .0) (record {
@@ -109,7 +94,7 @@ returns-2 : tie.Need-returns-2
 returns-2 c =
     let p = c .before in
     let d = p .before .before in
-    let l = listed (d .before .before .before) in
+    let l = here (d .before .before .before) in
     rw (p .place-of .ensures, p .before .moves-of .ensures, d .before .index .ensures .0) (record {
       above = omega (arith, d .before .before .before .before .before .before .before .pre .1 .1);
       low = omega (arith, d .before .before .before .before .before .before .before .pre .1 .1);

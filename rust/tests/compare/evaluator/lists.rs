@@ -14,6 +14,18 @@ pub struct Lists {
 /// The numbers of each list.
 pub type Each = Vec<Vec<u32>>;
 
+/// Lists one after the other, and their ends.
+pub fn lent(lists: &[Vec<u32>]) -> Lists {
+    let ends = lists.iter().scan(0, |end, list| {
+        *end += list.len() as u32;
+        Some(*end)
+    });
+    Lists {
+        numbers: lists.concat(),
+        ends: ends.collect(),
+    }
+}
+
 /// Where each list stands, if neither 7 nor 10 applies.
 fn ranges(lists: &Lists) -> Result<Vec<Range<usize>>, Refused> {
     if !(1..=32).contains(&lists.ends.len()) {

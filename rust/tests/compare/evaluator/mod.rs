@@ -9,6 +9,7 @@ pub mod expression;
 pub mod lists;
 pub mod machine;
 pub mod steps;
+pub mod update;
 
 use expression::Tree;
 use lists::{Each, Lists};

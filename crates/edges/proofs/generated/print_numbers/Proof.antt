@@ -7,10 +7,10 @@ use Rattle.edges.proofs.generated.print_numbers.Statement.{statement}
 use Rattle.edges.proofs.generated.print_numbers.Tie as tie
 
 abbrev Inv-loop : tie.InvT-loop
-Inv-loop numbers n₀ n = n ≤ 15
+Inv-loop numbers n₀ n = n ≤ 18
 
 abbrev μ-loop : tie.MeasureT-loop
-μ-loop numbers n₀ n = 15 - n
+μ-loop numbers n₀ n = 18 - n
 
 loop-holds : tie.Need-loop-holds Inv-loop μ-loop
 loop-holds c = search needs

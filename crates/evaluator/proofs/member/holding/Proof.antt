@@ -2,17 +2,20 @@
 use Prim.Native.Nat.{_-_, _≤_}
 use borrow.Author.Needs.{needs}
 use lib.ListN.{length}
-use Rattle.evaluator.proofs.member.holders.Statement.{statement}
-use Rattle.evaluator.proofs.member.holders.Tie as tie
+use Rattle.evaluator.proofs.member.holding.Statement.{statement}
+use Rattle.evaluator.proofs.member.holding.Tie as tie
 
 abbrev Inv-loop : tie.InvT-loop
-Inv-loop numbers ends x held₀ k₀ k-end held k = k ≤ length ends
+Inv-loop numbers ends some x held₀ k₀ k-end held k = k ≤ length ends
 
 abbrev μ-loop : tie.MeasureT-loop
-μ-loop numbers ends x held₀ k₀ k-end held k = length ends - k
+μ-loop numbers ends some x held₀ k₀ k-end held k = length ends - k
 
 loop-holds : tie.Need-loop-holds Inv-loop μ-loop
 loop-holds c = search needs
+
+shr-if1 : tie.Need-shr-if1 Inv-loop μ-loop
+shr-if1 c = search needs
 
 start-requires : tie.Need-start-requires Inv-loop μ-loop
 start-requires c κs = search needs
@@ -38,13 +41,14 @@ loop-again c = search needs
 returns : tie.Need-returns Inv-loop μ-loop
 returns c = search needs
 
-pub holders-spec : {M : Type 1} → statement M
-holders-spec =
+pub holding-spec : {M : Type 1} → statement M
+holding-spec =
     tie.close
     (tie.spec
     Inv-loop
     μ-loop
     loop-holds
+    shr-if1
     start-requires
     end-requires
     stands-requires

@@ -2,17 +2,14 @@
 use Prim.Native.Nat.{_≤_}
 use borrow.Author.Needs.{needs}
 use lib.ListN.{length}
-use Rattle.evaluator.proofs.member.is_member.Statement.{statement}
-use Rattle.evaluator.proofs.member.is_member.Tie as tie
+use Rattle.evaluator.proofs.member.denotes.Statement.{statement}
+use Rattle.evaluator.proofs.member.denotes.Tie as tie
 
 abbrev Inv-loop : tie.InvT-loop
-Inv-loop numbers ends tokens x held stack₀ left₀ stack left = left ≤ length tokens
+Inv-loop tokens held stack₀ left₀ stack left = left ≤ length tokens
 
 abbrev μ-loop : tie.MeasureT-loop
-μ-loop numbers ends tokens x held stack₀ left₀ stack left = left
-
-holders-requires : tie.Need-holders-requires Inv-loop μ-loop
-holders-requires c κs = search needs
+μ-loop tokens held stack₀ left₀ stack left = left
 
 loop-holds : tie.Need-loop-holds Inv-loop μ-loop
 loop-holds c = search needs
@@ -35,13 +32,12 @@ loop-again c = search needs
 returns : tie.Need-returns Inv-loop μ-loop
 returns c = search needs
 
-pub is-member-spec : {M : Type 1} → statement M
-is-member-spec =
+pub denotes-spec : {M : Type 1} → statement M
+denotes-spec =
     tie.close
     (tie.spec
     Inv-loop
     μ-loop
-    holders-requires
     loop-holds
     sub-left
     shared-slice-read-pushed

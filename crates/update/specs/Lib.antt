@@ -1,0 +1,2 @@
+-- What this crate's functions say beside the definitions of the model.
+pub mod Plans

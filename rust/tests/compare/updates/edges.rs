@@ -1,0 +1,113 @@
+//! What a good many cases must have had: each kind of a refusal, two refusals that apply at once, and each kind of success.
+
+use super::Update;
+use crate::evaluator::update::{Change, Kept, Updated};
+use crate::evaluator::{self, Begin, Source};
+use crate::inputs::longest;
+use crate::tally::Tally;
+
+impl Update {
+    /// How many numbers the changed list has, of accepted lists.
+    fn size(&self) -> usize {
+        evaluator::lists::part(&self.lists, self.change.list).len()
+    }
+
+    /// Whether 6 applies to the row of numbers, of accepted lists.
+    fn no_place(&self) -> bool {
+        let used = self.lists.ends.last().map_or(0, |end| *end as usize);
+        self.change.adds && self.lists.numbers.len() == used
+    }
+
+    /// The refusal that would come if the row of members were the expression's.
+    fn behind_17(&self, source: &Source) -> Option<u32> {
+        let mut row: Vec<u32> = source.set.iter().copied().collect();
+        let count = row.len();
+        row.resize(count.max(self.kept.row.len()), 0);
+        let kept = Kept { row, count };
+        Update { kept, ..self.clone() }.expected().err()
+    }
+
+    /// The refusal that would come if list 0 were to be changed, which is there.
+    fn behind_4(&self) -> Option<u32> {
+        let change = Change { list: 0, ..self.change };
+        Update { change, ..self.clone() }.expected().err()
+    }
+
+    /// Whether a number that is added is then a member.
+    fn would_be_member(&self, source: &Source) -> bool {
+        let Change { list, number, .. } = self.change;
+        let mut lists = source.lists.clone();
+        lists[list].push(number);
+        source.tree.denoted(&lists).contains(&number)
+    }
+}
+
+pub fn refused(tally: &mut Tally, case: &Update, refused: u32) {
+    let Change { list, adds, .. } = case.change;
+    let Ok(source) = evaluator::source(&case.lists, &case.packed, Begin::default()) else {
+        tally.edge("lists or expression ahead of 4 for the list", list >= case.lists.ends.len());
+        return;
+    };
+    let Kept { row, count } = &case.kept;
+    let members = source.set.len();
+    tally.edge("4 for the list", refused == 4);
+    match refused {
+        4 => tally.edge("4 ahead of 17", case.behind_4() == Some(17)),
+        17 => {
+            tally.edge("17, the row too short", *count > row.len());
+            tally.edge("17, the count", *count <= row.len() && *count != members);
+            tally.edge("17, an element", *count <= row.len() && *count == members);
+            let behind = case.behind_17(&source);
+            tally.edge("17 ahead of 15", behind == Some(15));
+            tally.edge("17 ahead of 16", behind == Some(16));
+            tally.edge("17 ahead of 6", behind == Some(6));
+        }
+        15 => {
+            tally.edge("15, adding", adds);
+            tally.edge("15, removing", !adds);
+            tally.edge("15 ahead of 16", adds && case.size() == 65_535);
+            tally.edge("15 ahead of 6", case.no_place());
+        }
+        16 => {
+            tally.edge("16 ahead of 6, a number", case.no_place());
+            tally.edge(
+                "16 ahead of 6, a member",
+                row.len() == members && case.would_be_member(&source),
+            );
+        }
+        _ => {
+            tally.edge("6, a number", case.no_place());
+            tally.edge("6, a member by adding", adds && !case.no_place());
+            tally.edge("6, a member by removing", !adds);
+        }
+    }
+}
+
+pub fn accepted(tally: &mut Tally, case: &Update, updated: &Updated) {
+    let Change { list, number, adds } = case.change;
+    let Kept { row, count } = &case.kept;
+    let Updated { lists, members } = updated;
+    let tree = evaluator::expression::read_packed(&case.packed, lists.ends.len()).expect("an accepted expression");
+    let was = row[..*count].contains(&number);
+    let will = members.contains(&number);
+    tally.edge("a member came by adding", adds && !was && will);
+    tally.edge("a member went by adding", adds && was && !will);
+    tally.edge("a member came by removing", !adds && !was && will);
+    tally.edge("a member went by removing", !adds && was && !will);
+    tally.edge("a member stayed", was && will);
+    tally.edge("no member", !was && !will);
+    let full = lists.numbers.len() == case.lists.numbers.len();
+    tally.edge("the last place for numbers", adds && full);
+    tally.edge("the last place for members", !was && will && members.len() == row.len());
+    tally.edge("lists before and behind", list > 0 && list + 1 < lists.ends.len());
+    tally.edge("32 lists", lists.ends.len() == 32);
+    tally.edge("a list emptied", !adds && case.size() == 1);
+    tally.edge(
+        "a list filled to 65,535",
+        adds && longest(lists) == 65_535 && case.size() == 65_534,
+    );
+    tally.edge("0", number == 0);
+    tally.edge("4,294,967,295", number == u32::MAX);
+    tally.edge("48 nodes", tree.row().len() == 48);
+    tally.edge("depth 12", tree.depth() == 12);
+}
