@@ -3,3 +3,4 @@ pub mod Changes
 pub mod Told
 pub mod RequestOne
 pub mod Shape
+pub mod Table

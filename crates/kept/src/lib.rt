@@ -78,8 +78,9 @@ pub fn find_in(numbers: &[u32], ends: &[u32], k: usize, number: u32) -> Found
     let start = lists::start_of(ends, k);
     let stop = lists::start_of(ends, next);
     let found = shifts::find(&numbers[start..stop], number);
+    let place = start + found.place;
     Found {
-        place: start + found.place,
+        place,
         there: found.there,
     }
 }

@@ -2,7 +2,7 @@
 // it. Nothing is written before the last test has passed.
 ghost use mathlib.Core.Path.{_≡_};
 ghost use Prim.Native.Nat.{_-_, _≤_, _<_};
-ghost use mathlib.Core.Bool.{true, not, _||_};
+ghost use mathlib.Core.Bool.{not, _||_};
 ghost use mathlib.Core.List.{_∷_};
 ghost use lib.Dec.{ltb};
 ghost use lib.ListN.{length, getD};

@@ -41,8 +41,8 @@ part-find-end c = omega (arith, here c .order, here c .inside)
 find-requires : tie.Need-find-requires
 find-requires c κs = let start = c .before .before .before .before .before in ap ascending (here (c .before) .is) ∙ start .pre .0 .ascend (start .args .k)
 
-add-t9 : tie.Need-add-t9
-add-t9 c =
+add-place : tie.Need-add-place
+add-place c =
     let e = c .before .before .before in
     let l = here e in
     let args = e .before .before .before .before .args in
@@ -68,5 +68,5 @@ find-in-spec =
     part-find-start
     part-find-end
     find-requires
-    add-t9
+    add-place
     returns)
