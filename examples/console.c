@@ -6,7 +6,8 @@
  *     target/console [FILE [LIST NUMBER]]       (without FILE: samples/console)
  *
  * With LIST and NUMBER that number is then added to that list, and the members are kept current: over samples/console `3 101`
- * withdraws 101. The exit status is 0 if every member was printed, else 1, and standard error says why.
+ * withdraws 101. In samples/undelivered the same lists come but withdrawn, which could not be had: nobody is shown, since it cannot
+ * be known who was withdrawn. The exit status is 0 if every member was printed, else 1, and standard error says why.
  */
 #include <errno.h>
 #include <inttypes.h>
@@ -25,6 +26,7 @@ struct question {
     size_t packed_length;
     size_t lists;
     size_t count;
+    uint32_t word;
 };
 
 /* One place more than an input may have, so that a longer one is seen. */
@@ -50,7 +52,7 @@ static const struct {
     REFUSAL(NUMBER_OF_LISTS, "there are no lists, or more than 32"),
     REFUSAL(GAP_PASSES_TOP, "a delivered number would pass 4294967295"),
     REFUSAL(WIDTH_NOT_LEAST, "a delivered list is not packed in the least width"),
-    REFUSAL(BAD_ENDS, "an end falls or passes the row, or a list has more than 65535 numbers"),
+    REFUSAL(BAD_ENDS, "an end falls or passes the row, or a list has more than 65535 numbers, or has any and was not delivered"),
     REFUSAL(NOT_ASCENDING, "a list does not ascend, or holds a number twice"),
     REFUSAL(BAD_BOOKMARK, "the bookmark is above 4294967296"),
     REFUSAL(LENGTHS_DIFFER, "codes and arguments differ in length, or the row of replies is shorter than the codes"),
@@ -58,6 +60,8 @@ static const struct {
     REFUSAL(NO_CHANGE, "the number to add is in the list, or the number to remove is not"),
     REFUSAL(LIST_FULL, "the list to add to has 65535 numbers"),
     REFUSAL(ROW_NOT_CURRENT, "the kept row or its count is not that of the expression's members"),
+    REFUSAL(LIST_NOT_DELIVERED, "the expression or the change names a list that was not delivered"),
+    REFUSAL(DELIVERY_INCOMPLETE, "a list was not delivered, which the old form cannot say"),
 };
 
 /* Says what is wrong with which part of the input. Always 1, for the exit status. */
@@ -102,21 +106,19 @@ static void print_lists(const struct question *asked)
     size_t list, i;
 
     for (list = 0; list < asked->lists; list++) {
-        zwailmoor_span span = zwailmoor_list_span(numbers, asked->count, ends, asked->lists, list);
+        zwailmoor_span span = zwailmoor_list_span(numbers, asked->count, ends, asked->lists, asked->word, list);
 
         printf("list %zu:", list);
         for (i = 0; i < span.size; i++)
             printf(" %" PRIu32, numbers[span.start + i]);
-        printf("\n");
+        printf("%s\n", asked->word & ZWAILMOOR_DELIVERED(list) ? "" : " not delivered");
     }
 }
 
-/* Delivery into `numbers` and `ends`, and a look at the expression, so that a bad one is refused before the first page. */
-static int read_question(size_t length, struct question *asked)
+/* Where the expression stands, and the delivery into `numbers` and `ends`. */
+static int read_delivery(size_t length, struct question *asked)
 {
-    uint8_t row[ZWAILMOOR_NODES];
     zwailmoor_decode_result decoded;
-    zwailmoor_write_result unpacked;
 
     if (length < 1 || length - 1 < input[0])
         return refused("the input", ZWAILMOOR_ENDS_EARLY);
@@ -126,12 +128,23 @@ static int read_question(size_t length, struct question *asked)
                                         NUMBERS, ends, ZWAILMOOR_LISTS);
     if (decoded.number != ZWAILMOOR_ACCEPTED)
         return refused("the delivery", decoded.number);
-    unpacked = zwailmoor_unpack_expression(asked->packed, asked->packed_length, decoded.lists, row, ZWAILMOOR_NODES);
-    if (unpacked.number != ZWAILMOOR_ACCEPTED)
-        return refused("the expression", unpacked.number);
     asked->lists = decoded.lists;
     asked->count = decoded.numbers;
-    printf("lists %zu, numbers %zu, nodes %zu\n", decoded.lists, decoded.numbers, unpacked.count);
+    asked->word = decoded.word;
+    printf("lists %zu, numbers %zu\n", decoded.lists, decoded.numbers);
+    return 0;
+}
+
+/* A look at the expression, so that a bad one, or one over a list that did not come, is refused before the first page. */
+static int read_expression(const struct question *asked)
+{
+    uint8_t row[ZWAILMOOR_NODES];
+    zwailmoor_write_result unpacked = zwailmoor_unpack_expression(asked->packed, asked->packed_length, asked->lists, asked->word,
+                                                                  row, ZWAILMOOR_NODES);
+
+    if (unpacked.number != ZWAILMOOR_ACCEPTED)
+        return refused("the expression", unpacked.number);
+    printf("expression, nodes %zu\n", unpacked.count);
     return 0;
 }
 
@@ -146,8 +159,8 @@ static int print_members(const struct question *asked, size_t *shown)
 
     for (page = 1; replies[PAGE - 1] != ZWAILMOOR_FINISHED; page++) {
         zwailmoor_run_result result =
-            zwailmoor_run(numbers, asked->count, ends, asked->lists, asked->packed, asked->packed_length, bookmark, codes, PAGE,
-                          arguments, PAGE, replies, PAGE);
+            zwailmoor_run(numbers, asked->count, ends, asked->lists, asked->word, asked->packed, asked->packed_length, bookmark,
+                          codes, PAGE, arguments, PAGE, replies, PAGE);
 
         if (result.number != ZWAILMOOR_ACCEPTED)
             return refused("the run", result.number);
@@ -180,8 +193,8 @@ static int read_number(const char *text, uintmax_t most, uintmax_t *number)
 /* One number more in a list: nothing is drawn again to show the members. */
 static int add_number(const struct question *asked, uintmax_t list, uintmax_t number, size_t shown)
 {
-    uint32_t result = zwailmoor_update(numbers, NUMBERS, ends, asked->lists, asked->packed, asked->packed_length, (size_t)list,
-                                       (uint32_t)number, 1, members, NUMBERS, &shown);
+    uint32_t result = zwailmoor_update(numbers, NUMBERS, ends, asked->lists, asked->word, asked->packed, asked->packed_length,
+                                       (size_t)list, (uint32_t)number, 1, members, NUMBERS, &shown);
     size_t i;
 
     if (result != ZWAILMOOR_ACCEPTED)
@@ -196,7 +209,7 @@ static int add_number(const struct question *asked, uintmax_t list, uintmax_t nu
 int main(int argc, char **argv)
 {
     const char *path = argc > 1 ? argv[1] : "samples/console";
-    struct question asked = {NULL, 0, 0, 0};
+    struct question asked = {NULL, 0, 0, 0, 0};
     size_t length = 0, shown = 0;
     uintmax_t list = 0, number = 0;
     int failed;
@@ -207,10 +220,12 @@ int main(int argc, char **argv)
     }
     if (argc == 4 && (read_number(argv[2], SIZE_MAX, &list) != 0 || read_number(argv[3], UINT32_MAX, &number) != 0))
         return 1;
-    if (read_input(path, &length) != 0 || read_question(length, &asked) != 0)
+    if (read_input(path, &length) != 0 || read_delivery(length, &asked) != 0)
         return 1;
     print_lists(&asked);
-    failed = print_members(&asked, &shown);
+    failed = read_expression(&asked);
+    if (failed == 0)
+        failed = print_members(&asked, &shown);
     if (failed == 0 && argc == 4)
         failed = add_number(&asked, list, number, shown);
     /* A print that failed is remembered by the stream, so one look at the end is enough. */

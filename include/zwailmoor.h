@@ -16,6 +16,12 @@
  * Threads. The library has no state: any number of threads may call at once, as long as nobody writes a row while it is lent
  * to another thread's call.
  *
+ * Lists. Their numbers stand in one row, one list after the other, and each list has an end: list k stands from the end of list
+ * k - 1 (0 for the first) up to its own, that end excluded. Beside the ends goes a word of 32 bits that says which lists were
+ * delivered, list 0 in the most significant bit: 1 delivered, 0 not. A list that was not delivered has no numbers, and an
+ * expression that names it is refused; one that was delivered and is empty is the empty set. Bits of lists that are not there are
+ * ignored, and 0 in a word that is handed back.
+ *
  * Arguments. Apart from the rows' own conditions above, and given 16 kB of stack, every call takes any values, and ends. There is
  * no earlier call that has to be made first: each call tests what it is given.
  *
@@ -44,6 +50,10 @@ extern "C" {
 #define ZWAILMOOR_FIRST_BOOKMARK UINT64_C(0)
 #define ZWAILMOOR_TOP_BOOKMARK UINT64_C(4294967296)
 
+/* The word of lists that were all delivered, and the bit of one list in a word: of list 0 to 31. */
+#define ZWAILMOOR_ALL_DELIVERED UINT32_C(0xFFFFFFFF)
+#define ZWAILMOOR_DELIVERED(list) (UINT32_C(0x80000000) >> (list))
+
 /* What is handed back as `number`, and by zwailmoor_update. */
 #define ZWAILMOOR_ACCEPTED 0          /* Nothing is wrong. */
 #define ZWAILMOOR_ENDS_EARLY 1        /* The bytes or the row end too early. */
@@ -55,7 +65,8 @@ extern "C" {
 #define ZWAILMOOR_NUMBER_OF_LISTS 7   /* There are no lists, or more than 32. */
 #define ZWAILMOOR_GAP_PASSES_TOP 8    /* A delivered number would pass 4,294,967,295. */
 #define ZWAILMOOR_WIDTH_NOT_LEAST 9   /* A delivered list is not packed in the least width. */
-#define ZWAILMOOR_BAD_ENDS 10         /* An end falls or passes the row, or a list has more than 65,535 numbers. */
+#define ZWAILMOOR_BAD_ENDS 10         /* An end falls or passes the row, or a list has more than 65,535 numbers, or has any and
+                                         was not delivered. */
 #define ZWAILMOOR_NOT_ASCENDING 11    /* A list does not ascend, or holds a number twice. */
 #define ZWAILMOOR_BAD_BOOKMARK 12     /* The bookmark is above 4,294,967,296. */
 #define ZWAILMOOR_LENGTHS_DIFFER 13   /* Codes and arguments differ in length, or the replies' row is shorter than the codes. */
@@ -63,6 +74,8 @@ extern "C" {
 #define ZWAILMOOR_NO_CHANGE 15        /* The number to add is in the list, or the number to remove is not. */
 #define ZWAILMOOR_LIST_FULL 16        /* The list to add to has 65,535 numbers. */
 #define ZWAILMOOR_ROW_NOT_CURRENT 17  /* The kept row or its count is not that of the expression's members. */
+#define ZWAILMOOR_LIST_NOT_DELIVERED 18   /* The expression or the change names a list that was not delivered. */
+#define ZWAILMOOR_DELIVERY_INCOMPLETE 19  /* A list was not delivered, which the old form cannot say. */
 
 /* The codes of a run's calls. Any other code is replied to as unknown, and changes nothing. */
 #define ZWAILMOOR_NEXT 0              /* The least member not below the floor; its argument is ignored. */
@@ -87,9 +100,10 @@ typedef struct zwailmoor_write_result {
     size_t count;
 } zwailmoor_write_result;
 
-/* What reading a delivery hands back: how many lists (and ends) and how many numbers were written. */
+/* What reading a delivery hands back: which lists were delivered; how many lists (and ends) and how many numbers were written. */
 typedef struct zwailmoor_decode_result {
     uint32_t number;
+    uint32_t word;
     size_t lists;
     size_t numbers;
 } zwailmoor_decode_result;
@@ -112,53 +126,72 @@ typedef struct zwailmoor_run_result {
 } zwailmoor_run_result;
 
 /*
- * Reads a packed expression over so many lists, and writes its row form: one byte a node, `count` of them. 48 places are always
- * enough.
- * Refusals: 7; at each node 2, 3, 1, 4; after the last node 5, then 6.
+ * Reads a packed expression over so many lists, of which the word says which were delivered, and writes its row form: one byte a
+ * node, `count` of them. 48 places are always enough.
+ * Refusals: 7; at each node 2, 3, 1, 4, 18; after the last node 5, then 6.
  */
-zwailmoor_write_result zwailmoor_unpack_expression(const uint8_t *packed, size_t packed_length, size_t lists, uint8_t *row,
-                                                   size_t row_length);
+zwailmoor_write_result zwailmoor_unpack_expression(const uint8_t *packed, size_t packed_length, size_t lists, uint32_t word,
+                                                   uint8_t *row, size_t row_length);
 
 /*
- * Reads an expression's row form over so many lists, and writes it packed: `count` bytes. 41 places are always enough.
- * Refusals: 7; at each node 2, 3, 1, 4 or 14; after the last node 5, then 6.
+ * Reads an expression's row form over such lists, and writes it packed: `count` bytes. 41 places are always enough.
+ * Refusals: 7; at each node 2, 3, 1, 14, 4, 18; after the last node 5, then 6.
  */
-zwailmoor_write_result zwailmoor_pack_expression(const uint8_t *row, size_t row_length, size_t lists, uint8_t *packed,
-                                                 size_t packed_length);
+zwailmoor_write_result zwailmoor_pack_expression(const uint8_t *row, size_t row_length, size_t lists, uint32_t word,
+                                                 uint8_t *packed, size_t packed_length);
 
 /*
- * Reads a delivery, and writes the lists' numbers one list after the other, and one end for each list: list k stands from the
- * end of list k - 1 (0 for the first) up to its own end, that end excluded. 32 places are always enough for the ends.
+ * Reads a delivery, and writes the lists' numbers one list after the other, and one end for each list, also for one that was not
+ * delivered. 32 places are always enough for the ends.
  * Refusals: 1 wherever the bits run out; 7; 6 for the ends; then for each list 6 for the numbers, 8, 9; at the end 5.
  */
 zwailmoor_decode_result zwailmoor_decode_delivery(const uint8_t *delivery, size_t delivery_length, uint32_t *numbers,
                                                   size_t numbers_length, uint32_t *ends, size_t ends_length);
 
 /*
- * Writes lists as a delivery: `count` bytes. There are as many lists as ends, and numbers behind the last end are ignored.
+ * Writes lists as a delivery: `count` bytes. There are as many lists as ends, and numbers behind the last end are ignored. Of a
+ * list that was not delivered one bit is written that says so.
  * Refusals: 7, 10, 11 (each over all lists before the next), 6.
  */
 zwailmoor_write_result zwailmoor_encode_delivery(const uint32_t *numbers, size_t numbers_length, const uint32_t *ends,
-                                                 size_t ends_length, uint8_t *delivery, size_t delivery_length);
+                                                 size_t ends_length, uint32_t word, uint8_t *delivery,
+                                                 size_t delivery_length);
+
+/*
+ * Moves a stored delivery to the form that the other calls read and write, all its lists delivered: `count` bytes. The old form
+ * has no bit ahead of a list's count. 4 places more than the old form has bytes are always enough.
+ * Refusals: 1 wherever the bits run out; 7; for each list 8, 9; then 5; 6.
+ */
+zwailmoor_write_result zwailmoor_upgrade_delivery(const uint8_t *old, size_t old_length, uint8_t *delivery,
+                                                  size_t delivery_length);
+
+/*
+ * Moves a delivery back to the old form: `count` bytes. As many places as the delivery has bytes are always enough. There and
+ * back, in either direction, gives the same bytes.
+ * Refusals: 1 wherever the bits run out; 7; for each list 8, 9; then 5; 19 if any list was not delivered; 6.
+ */
+zwailmoor_write_result zwailmoor_downgrade_delivery(const uint8_t *delivery, size_t delivery_length, uint8_t *old,
+                                                    size_t old_length);
 
 /*
  * Where a list stands in the row of numbers: `size` numbers from numbers[start] on. Both are 0 if refusal 7, 10 or 11 would
- * apply to the lists, or if there is no such list.
+ * apply to the lists, or if there is no such list. A list that was not delivered has size 0 at its own place.
  */
 zwailmoor_span zwailmoor_list_span(const uint32_t *numbers, size_t numbers_length, const uint32_t *ends, size_t ends_length,
-                                   size_t list);
+                                   uint32_t word, size_t list);
 
 /*
  * A run: puts the calls codes[i] with arguments[i] one after the other to the set that the packed expression denotes over the
  * lists, and writes replies[i] for each. The floor begins at the bookmark; the bookmark handed back is the last floor, so a run
  * over the same lists and expression from there goes on where this one ended; its moves and places are its own and begin at 0.
  * A member that was drawn is not drawn again in this run, nor from the bookmark that it hands back.
- * Refusals: 7, 10, 11 (each over all lists before the next); of the expression as in zwailmoor_unpack_expression 1 to 5; 12; 13.
+ * Refusals: 7, 10, 11 (each over all lists before the next); of the expression as in zwailmoor_unpack_expression 1 to 5
+ * and 18; 12; 13.
  */
 zwailmoor_run_result zwailmoor_run(const uint32_t *numbers, size_t numbers_length, const uint32_t *ends, size_t ends_length,
-                                   const uint8_t *packed, size_t packed_length, uint64_t bookmark, const uint8_t *codes,
-                                   size_t codes_length, const uint32_t *arguments, size_t arguments_length, uint64_t *replies,
-                                   size_t replies_length);
+                                   uint32_t word, const uint8_t *packed, size_t packed_length, uint64_t bookmark,
+                                   const uint8_t *codes, size_t codes_length, const uint32_t *arguments,
+                                   size_t arguments_length, uint64_t *replies, size_t replies_length);
 
 /*
  * One change, with the shown members kept current: adds a number to a list or removes it (`add` 0 removes, any other value adds).
@@ -168,13 +201,13 @@ zwailmoor_run_result zwailmoor_run(const uint32_t *numbers, size_t numbers_lengt
  * used. Behind the new last end and the new count the rows hold what they held.
  * Adding takes a place behind the last end; a new member takes one behind the old ones, and can come by removing too, from a list
  * that is subtracted. One place behind each is always enough.
- * Refusals: 7, 10, 11 (each over all lists before the next); of the expression as in zwailmoor_unpack_expression 1 to 5; 4 for
- * the list; 17; 15; 16; 6 for either row.
+ * Refusals: 7, 10, 11 (each over all lists before the next); of the expression as in zwailmoor_unpack_expression 1 to 5 and 18;
+ * 4 for the list, then 18 for it; 17; 15; 16; 6 for either row.
  * To test 17 it draws all members, so it takes about as long as drawing them in one run.
  */
-uint32_t zwailmoor_update(uint32_t *numbers, size_t numbers_length, uint32_t *ends, size_t ends_length, const uint8_t *packed,
-                          size_t packed_length, size_t list, uint32_t number, uint8_t add, uint32_t *members,
-                          size_t members_length, size_t *count);
+uint32_t zwailmoor_update(uint32_t *numbers, size_t numbers_length, uint32_t *ends, size_t ends_length, uint32_t word,
+                          const uint8_t *packed, size_t packed_length, size_t list, uint32_t number, uint8_t add,
+                          uint32_t *members, size_t members_length, size_t *count);
 
 #ifdef __cplusplus
 }

@@ -6,6 +6,7 @@ use crate::table::{grouped, micros, ratio, Table};
 use crate::timing::{Contest, Results};
 use crate::verdict::waited;
 use std::collections::BTreeSet;
+use zwailmoor::ALL_DELIVERED;
 
 const PAGE: usize = 1000;
 
@@ -43,7 +44,16 @@ impl Rows {
 
     fn update(&mut self, list: usize, change: zwailmoor::Change) -> Result<(), zwailmoor::Refusal> {
         let (numbers, ends, members) = (&mut self.numbers, &mut self.ends, &mut self.members);
-        zwailmoor::update(numbers, ends, &self.packed, list, change, members, &mut self.count)
+        zwailmoor::update(
+            numbers,
+            ends,
+            ALL_DELIVERED,
+            &self.packed,
+            list,
+            change,
+            members,
+            &mut self.count,
+        )
     }
 }
 
@@ -80,7 +90,16 @@ impl Kept for SameSteps {
             members,
             count,
         } = &mut self.0;
-        let result = same_change::update(numbers, ends, packed, change.list, as_called(change), members, count);
+        let result = same_change::update(
+            numbers,
+            ends,
+            ALL_DELIVERED,
+            packed,
+            change.list,
+            as_called(change),
+            members,
+            count,
+        );
         result.unwrap_or_else(|number| panic!("the same steps refuse with {number}"));
     }
 
@@ -120,6 +139,7 @@ impl Afresh {
             let run = zwailmoor::run(
                 numbers,
                 ends,
+                ALL_DELIVERED,
                 packed,
                 bookmark,
                 &self.codes,

@@ -8,6 +8,7 @@ use crate::peers::sqlite;
 use crate::peers::{btree, merges, same_steps};
 use crate::table::{grouped, micros, peer, ratio, Table};
 use crate::timing::{Contest, Ratio, Results, Timed};
+use zwailmoor::ALL_DELIVERED;
 
 const FINISHED: u64 = 4_294_967_298;
 /// What stands in a reply row before a run that is compared.
@@ -41,7 +42,16 @@ impl Prepared {
 
     pub fn engine(&self, calls: usize, replies: &mut [u64]) -> same_steps::RunResult {
         let (codes, arguments) = (&self.codes[..calls], &self.arguments[..calls]);
-        let result = zwailmoor::run(&self.numbers, &self.ends, &self.packed, 0, codes, arguments, replies);
+        let result = zwailmoor::run(
+            &self.numbers,
+            &self.ends,
+            ALL_DELIVERED,
+            &self.packed,
+            0,
+            codes,
+            arguments,
+            replies,
+        );
         let result = result.unwrap_or_else(|refusal| panic!("the engine refuses with {}", refusal.number()));
         same_steps::RunResult {
             moves: result.moves,
@@ -52,7 +62,16 @@ impl Prepared {
 
     pub fn same_steps(&self, calls: usize, replies: &mut [u64]) -> same_steps::RunResult {
         let (codes, arguments) = (&self.codes[..calls], &self.arguments[..calls]);
-        let result = same_steps::run(&self.numbers, &self.ends, &self.packed, 0, codes, arguments, replies);
+        let result = same_steps::run(
+            &self.numbers,
+            &self.ends,
+            ALL_DELIVERED,
+            &self.packed,
+            0,
+            codes,
+            arguments,
+            replies,
+        );
         result.unwrap_or_else(|number| panic!("the same steps refuse with {number}"))
     }
 

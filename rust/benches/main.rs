@@ -44,6 +44,7 @@ fn print_method() {
         "  members, as the same steps do. Drawn afresh: the rows are changed by hand, and runs draw all members again. No tests:"
     );
     println!("  lists and members are taken as right, and only the one number is looked up");
+    println!("- every list was delivered. Moves by hand: one walk makes the tests, then whole words of bits are copied");
     println!("- before it is timed, every contender's whole result is compared with the others'");
 }
 

@@ -11,6 +11,8 @@ const DRAWING_MARK: f64 = 1.70;
 const CHECKING_MARK: f64 = 1.80;
 /// MB of the numbers row a second, at least.
 const MEGABYTES: f64 = 100.0;
+/// MB of the bytes that a move reads a second, at least.
+const MOVED_MEGABYTES: f64 = 200.0;
 
 fn word(reached: bool) -> &'static str {
     if reached {
@@ -88,13 +90,13 @@ fn print_checks(checks: &Results) {
     table.print(&title("checks", CHECKING_MARK));
 }
 
-fn print_speeds(speeds: &[Speed]) {
+fn print_speeds(what: &str, speeds: &[Speed], mark: f64) {
     let mut table = Table::new(&["delivery", "MB/s"]);
     for speed in speeds.iter().filter(|speed| speed.work.contains("engine")) {
-        let verdict = word(speed.best() >= MEGABYTES);
+        let verdict = word(speed.best() >= mark);
         table.row(vec![speed.work.clone(), format!("{:.0} {verdict}", speed.best())]);
     }
-    table.print(&format!("Verdict: deliveries (at least {MEGABYTES} MB/s)"));
+    table.print(&format!("Verdict: {what} (at least {mark} MB/s)"));
 }
 
 const NOTE: &str = "
@@ -103,9 +105,14 @@ round of samples. \"Reached\" asks that both keep the mark; anything else is \"m
 \"Waited\" is the share of the time in which other programs had the processor: above a few in 100 the case should be
 timed again on a quieter machine.";
 
-pub fn print(drawn: &[Drawn], checks: &Results, speeds: &[Speed]) {
+pub fn print(drawn: &[Drawn], checks: &Results, [coded, moved]: &[Vec<Speed>; 2]) {
     println!("{NOTE}");
     print_drawing(drawn);
     print_checks(checks);
-    print_speeds(speeds);
+    print_speeds("deliveries", coded, MEGABYTES);
+    print_speeds(
+        "deliveries moved between the forms, by the bytes read",
+        moved,
+        MOVED_MEGABYTES,
+    );
 }

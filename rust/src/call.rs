@@ -41,11 +41,11 @@ impl Call {
 /// More may come, so match with a wildcard arm:
 ///
 /// ```
-/// use zwailmoor::{run, Call, Reply, RunResult};
+/// use zwailmoor::{run, Call, Reply, RunResult, ALL_DELIVERED};
 ///
 /// let (codes, arguments) = ([Call::Next, Call::Check(8)].map(Call::code), [0, 8]);
 /// let mut replies = [0; 2];
-/// let RunResult { bookmark, .. } = run(&[5, 8], &[2], &[0x00], 0, &codes, &arguments, &mut replies)?;
+/// let RunResult { bookmark, .. } = run(&[5, 8], &[2], ALL_DELIVERED, &[0x00], 0, &codes, &arguments, &mut replies)?;
 ///
 /// let words = replies.map(|element| match Reply::from_row(element) {
 ///     Some(Reply::Member(number)) => format!("member {number}"),

@@ -3,12 +3,20 @@
 use crate::ffi;
 use crate::Refusal;
 
-/// What a delivery held: so many lists, and as many ends; so many numbers in all.
+/// The word of lists that were all delivered.
+///
+/// A word goes beside the ends of lists and says which lists were delivered, list 0 in its most significant bit: 1 delivered, 0 not.
+/// Bits of lists that are not there are ignored, and 0 in a word that is handed back.
+pub const ALL_DELIVERED: u32 = u32::MAX;
+
+/// What a delivery held: which lists were delivered; so many lists, and as many ends; so many numbers in all.
 ///
 /// More fields may come, so outside this package it is taken apart with `..`.
 #[derive(Debug, Clone, Copy, PartialEq, Eq)]
 #[non_exhaustive]
 pub struct DecodeResult {
+    /// Which lists were delivered, list 0 in the most significant bit.
+    pub word: u32,
     /// How many lists, and so how many ends were written.
     pub lists: usize,
     /// How many numbers were written.
@@ -45,52 +53,109 @@ fn count(result: ffi::WriteResult) -> Result<usize, Refusal> {
     Refusal::test(number).map(|()| count)
 }
 
-/// Writes a packed expression over so many lists in its row form, one byte a node, and hands back how many nodes.
+/// Writes a packed expression over so many lists, of which the word says which were delivered, in its row form, one byte a node,
+/// and hands back how many nodes.
 ///
 /// A row of 48 bytes is always long enough.
 ///
 /// # Errors
-/// 7; at each node 2, 3, 1, 4; after the last node 5, then 6. The row is then as it was.
-pub fn unpack_expression(packed: &[u8], lists: usize, row: &mut [u8]) -> Result<usize, Refusal> {
-    count(ffi::unpack_expression(packed, lists, row))
+/// 7; at each node 2, 3, 1, 4, 18; after the last node 5, then 6. The row is then as it was.
+pub fn unpack_expression(packed: &[u8], lists: usize, word: u32, row: &mut [u8]) -> Result<usize, Refusal> {
+    count(ffi::unpack_expression(packed, lists, word, row))
 }
 
-/// Writes an expression's row form over so many lists packed, and hands back how many bytes.
+/// Writes an expression's row form over such lists packed, and hands back how many bytes.
 ///
 /// In a row 0 to 31 is a list, 64 a difference of the two nodes that follow, 129 to 136 a union and 193 to 200 an intersection of
 /// the 1 to 8 nodes that follow. 41 bytes are always enough for the packed form.
 ///
 /// # Errors
-/// 7; at each node 2, 3, 1, 4 or 14; after the last node 5, then 6. The packed bytes are then as they were.
-pub fn pack_expression(row: &[u8], lists: usize, packed: &mut [u8]) -> Result<usize, Refusal> {
-    count(ffi::pack_expression(row, lists, packed))
+/// 7; at each node 2, 3, 1, 14, 4, 18; after the last node 5, then 6. The packed bytes are then as they were.
+pub fn pack_expression(row: &[u8], lists: usize, word: u32, packed: &mut [u8]) -> Result<usize, Refusal> {
+    count(ffi::pack_expression(row, lists, word, packed))
 }
 
-/// Reads a delivery: the numbers of all its lists one after the other, and for each list where it ends.
+/// Reads a delivery: the numbers of all its lists one after the other, and for each list where it ends, and whether it was
+/// delivered. A list that was not has no numbers, but an end.
+///
+/// ```
+/// use zwailmoor::{decode_delivery, unpack_expression, Refusal};
+///
+/// // Two lists: 2 3 5, and one that was not delivered.
+/// let (mut numbers, mut ends) = ([0; 3], [0; 2]);
+/// let read = decode_delivery(&[0x0A, 0x00, 0x06, 0x00, 0x00, 0x00, 0x04, 0x04], &mut numbers, &mut ends)?;
+/// assert_eq!((numbers, ends, read.word), ([2, 3, 5], [3, 3], 1 << 31));
+///
+/// // List 0 can be asked for. List 0 less list 1 cannot: without list 1 nobody knows what to take away.
+/// assert_eq!(unpack_expression(&[0x00], read.lists, read.word, &mut [0; 3]), Ok(1));
+/// let difference = unpack_expression(&[0x40, 0x01], read.lists, read.word, &mut [0; 3]);
+/// assert_eq!(difference, Err(Refusal::ListNotDelivered));
+/// # Ok::<(), Refusal>(())
+/// ```
 ///
 /// # Errors
 /// 1 wherever the bits run out; 7; 6 for the ends; then for each list 6 for the numbers, 8, 9; at the end 5. Both rows are then as
 /// they were.
 pub fn decode_delivery(delivery: &[u8], numbers: &mut [u32], ends: &mut [u32]) -> Result<DecodeResult, Refusal> {
-    let ffi::DecodeResult { number, lists, numbers } = ffi::decode_delivery(delivery, numbers, ends);
-    Refusal::test(number).map(|()| DecodeResult { lists, numbers })
+    let ffi::DecodeResult {
+        number,
+        word,
+        lists,
+        numbers,
+    } = ffi::decode_delivery(delivery, numbers, ends);
+    Refusal::test(number).map(|()| DecodeResult { word, lists, numbers })
 }
 
 /// Writes lists as a delivery, and hands back how many bytes.
 ///
-/// There are as many lists as ends; numbers behind the last end are ignored.
+/// There are as many lists as ends; numbers behind the last end are ignored. Of a list that was not delivered one bit is written
+/// that says so.
 ///
 /// # Errors
 /// 7, 10, 11, each over all lists before the next; then 6. The delivery's bytes are then as they were.
-pub fn encode_delivery(numbers: &[u32], ends: &[u32], delivery: &mut [u8]) -> Result<usize, Refusal> {
-    count(ffi::encode_delivery(numbers, ends, delivery))
+pub fn encode_delivery(numbers: &[u32], ends: &[u32], word: u32, delivery: &mut [u8]) -> Result<usize, Refusal> {
+    count(ffi::encode_delivery(numbers, ends, word, delivery))
+}
+
+/// Moves a stored delivery from the old form, which has no bit ahead of a list's count, to the one that all other calls read and
+/// write, all its lists delivered; hands back how many bytes.
+///
+/// 4 bytes more than the old form has are always enough.
+///
+/// ```
+/// // One list, 2 3 5.
+/// let old = [0x04, 0x00, 0x0C, 0x00, 0x00, 0x00, 0x08, 0x08];
+/// let (mut delivery, mut back) = ([0; 12], [0; 8]);
+/// let length = zwailmoor::upgrade_delivery(&old, &mut delivery)?;
+/// assert_eq!(delivery[..length], [0x06, 0x00, 0x06, 0x00, 0x00, 0x00, 0x04, 0x04]);
+/// assert_eq!(zwailmoor::downgrade_delivery(&delivery[..length], &mut back)?, 8);
+/// assert_eq!(back, old);
+/// # Ok::<(), zwailmoor::Refusal>(())
+/// ```
+///
+/// # Errors
+/// 1 wherever the bits run out; 7; for each list 8, 9; then 5; 6. The delivery's bytes are then as they were.
+pub fn upgrade_delivery(old: &[u8], delivery: &mut [u8]) -> Result<usize, Refusal> {
+    count(ffi::upgrade_delivery(old, delivery))
+}
+
+/// Moves a delivery back to the old form, and hands back how many bytes.
+///
+/// As many bytes as the delivery has are always enough. There and back, in either direction, gives the same bytes.
+///
+/// # Errors
+/// 1 wherever the bits run out; 7; for each list 8, 9; then 5; 19 if any list was not delivered; 6. The old form's bytes are then as
+/// they were.
+pub fn downgrade_delivery(delivery: &[u8], old: &mut [u8]) -> Result<usize, Refusal> {
+    count(ffi::downgrade_delivery(delivery, old))
 }
 
 /// The numbers of one list: the part of the lent numbers itself.
 ///
-/// It is the empty part at the start if refusal 7, 10 or 11 would apply to the lists, or if there is no such list.
-pub fn list_part<'a>(numbers: &'a [u32], ends: &[u32], list: usize) -> &'a [u32] {
-    let span = ffi::list_span(numbers, ends, list);
+/// It is the empty part at the start if refusal 7, 10 or 11 would apply to the lists, or if there is no such list. A list that was
+/// not delivered has the empty part at its own place.
+pub fn list_part<'a>(numbers: &'a [u32], ends: &[u32], word: u32, list: usize) -> &'a [u32] {
+    let span = ffi::list_span(numbers, ends, word, list);
     &numbers[span.start..][..span.size]
 }
 
@@ -100,11 +165,14 @@ pub fn list_part<'a>(numbers: &'a [u32], ends: &[u32], list: usize) -> &'a [u32]
 /// The floor begins at the bookmark. A code above 3 is replied to as unknown, and changes nothing.
 ///
 /// # Errors
-/// 7, 10, 11, each over all lists before the next; of the expression 1 to 5 as in [`unpack_expression`]; 12; 13. The replies are
-/// then as they were.
+/// 7, 10, 11, each over all lists before the next; of the expression 1 to 5 and 18 as in [`unpack_expression`]; 12; 13. The replies
+/// are then as they were.
+// As many arguments as in C.
+#[allow(clippy::too_many_arguments)]
 pub fn run(
     numbers: &[u32],
     ends: &[u32],
+    word: u32,
     packed: &[u8],
     bookmark: u64,
     codes: &[u8],
@@ -116,7 +184,7 @@ pub fn run(
         moves,
         places,
         bookmark,
-    } = ffi::run(numbers, ends, packed, bookmark, codes, arguments, replies);
+    } = ffi::run(numbers, ends, word, packed, bookmark, codes, arguments, replies);
     Refusal::test(number).map(|()| RunResult { moves, places, bookmark })
 }
 
@@ -130,7 +198,7 @@ pub fn run(
 /// list that is subtracted. It draws all members to compare them with the row, so it takes about as long as a [`run`] that does.
 ///
 /// ```
-/// use zwailmoor::{update, Change};
+/// use zwailmoor::{update, Change, ALL_DELIVERED};
 ///
 /// // team, partners, held, withdrawn, and a free place; "(team or partners) and held, but not withdrawn"
 /// let mut numbers = [101, 104, 107, 110, 102, 104, 108, 101, 102, 104, 107, 108, 104, 107, 0];
@@ -139,20 +207,23 @@ pub fn run(
 /// let (mut members, mut count) = ([101, 102, 108, 0], 3);
 ///
 /// // 102 is withdrawn, and 104 no longer.
-/// update(&mut numbers, &mut ends, &packed, 3, Change::Add(102), &mut members, &mut count)?;
+/// update(&mut numbers, &mut ends, ALL_DELIVERED, &packed, 3, Change::Add(102), &mut members, &mut count)?;
 /// assert_eq!(members[..count], [101, 108]);
-/// update(&mut numbers, &mut ends, &packed, 3, Change::Remove(104), &mut members, &mut count)?;
+/// update(&mut numbers, &mut ends, ALL_DELIVERED, &packed, 3, Change::Remove(104), &mut members, &mut count)?;
 /// assert_eq!(members[..count], [101, 104, 108]);
 /// assert_eq!((&numbers[12..14], ends), (&[102, 107][..], [4, 7, 12, 14]));
 /// # Ok::<(), zwailmoor::Refusal>(())
 /// ```
 ///
 /// # Errors
-/// 7, 10, 11, each over all lists before the next; of the expression 1 to 5 as in [`unpack_expression`]; 4 for the list; 17; 15;
-/// 16; 6 for either row. All rows and the count are then as they were.
+/// 7, 10, 11, each over all lists before the next; of the expression 1 to 5 and 18 as in [`unpack_expression`]; 4 for the list, then
+/// 18 for it; 17; 15; 16; 6 for either row. All rows and the count are then as they were.
+// Nearly as many arguments as in C.
+#[allow(clippy::too_many_arguments)]
 pub fn update(
     numbers: &mut [u32],
     ends: &mut [u32],
+    word: u32,
     packed: &[u8],
     list: usize,
     change: Change,
@@ -163,5 +234,5 @@ pub fn update(
         Change::Add(number) => (number, 1),
         Change::Remove(number) => (number, 0),
     };
-    Refusal::test(ffi::update(numbers, ends, packed, list, number, add, members, count))
+    Refusal::test(ffi::update(numbers, ends, word, packed, list, number, add, members, count))
 }

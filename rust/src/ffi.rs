@@ -1,4 +1,4 @@
-//! The engine's seven C calls, and the only `unsafe` of this package.
+//! The engine's nine C calls, and the only `unsafe` of this package.
 //!
 //! Each function here lends slices for one call. What the engine asks of its caller (`include/zwailmoor.h`) a slice is by its
 //! type: its pointer is aligned and never null, also where it is empty; it has as many elements as it says; and a `&mut` slice
@@ -19,6 +19,7 @@ pub struct WriteResult {
 #[derive(Debug, Clone, Copy, PartialEq, Eq)]
 pub struct DecodeResult {
     pub number: u32,
+    pub word: u32,
     pub lists: usize,
     pub numbers: usize,
 }
@@ -46,6 +47,7 @@ extern "C" {
         packed: *const u8,
         packed_length: usize,
         lists: usize,
+        word: u32,
         row: *mut u8,
         row_length: usize,
     ) -> WriteResult;
@@ -53,6 +55,7 @@ extern "C" {
         row: *const u8,
         row_length: usize,
         lists: usize,
+        word: u32,
         packed: *mut u8,
         packed_length: usize,
     ) -> WriteResult;
@@ -69,16 +72,26 @@ extern "C" {
         numbers_length: usize,
         ends: *const u32,
         ends_length: usize,
+        word: u32,
         delivery: *mut u8,
         delivery_length: usize,
     ) -> WriteResult;
-    fn zwailmoor_list_span(numbers: *const u32, numbers_length: usize, ends: *const u32, ends_length: usize, list: usize)
-        -> Span;
+    fn zwailmoor_upgrade_delivery(old: *const u8, old_length: usize, delivery: *mut u8, delivery_length: usize) -> WriteResult;
+    fn zwailmoor_downgrade_delivery(delivery: *const u8, delivery_length: usize, old: *mut u8, old_length: usize) -> WriteResult;
+    fn zwailmoor_list_span(
+        numbers: *const u32,
+        numbers_length: usize,
+        ends: *const u32,
+        ends_length: usize,
+        word: u32,
+        list: usize,
+    ) -> Span;
     fn zwailmoor_run(
         numbers: *const u32,
         numbers_length: usize,
         ends: *const u32,
         ends_length: usize,
+        word: u32,
         packed: *const u8,
         packed_length: usize,
         bookmark: u64,
@@ -94,6 +107,7 @@ extern "C" {
         numbers_length: usize,
         ends: *mut u32,
         ends_length: usize,
+        word: u32,
         packed: *const u8,
         packed_length: usize,
         list: usize,
@@ -105,14 +119,14 @@ extern "C" {
     ) -> u32;
 }
 
-pub fn unpack_expression(packed: &[u8], lists: usize, row: &mut [u8]) -> WriteResult {
+pub fn unpack_expression(packed: &[u8], lists: usize, word: u32, row: &mut [u8]) -> WriteResult {
     // SAFETY: both pairs are slices, and `row`, the one written, is `&mut`.
-    unsafe { zwailmoor_unpack_expression(packed.as_ptr(), packed.len(), lists, row.as_mut_ptr(), row.len()) }
+    unsafe { zwailmoor_unpack_expression(packed.as_ptr(), packed.len(), lists, word, row.as_mut_ptr(), row.len()) }
 }
 
-pub fn pack_expression(row: &[u8], lists: usize, packed: &mut [u8]) -> WriteResult {
+pub fn pack_expression(row: &[u8], lists: usize, word: u32, packed: &mut [u8]) -> WriteResult {
     // SAFETY: both pairs are slices, and `packed`, the one written, is `&mut`.
-    unsafe { zwailmoor_pack_expression(row.as_ptr(), row.len(), lists, packed.as_mut_ptr(), packed.len()) }
+    unsafe { zwailmoor_pack_expression(row.as_ptr(), row.len(), lists, word, packed.as_mut_ptr(), packed.len()) }
 }
 
 pub fn decode_delivery(delivery: &[u8], numbers: &mut [u32], ends: &mut [u32]) -> DecodeResult {
@@ -129,7 +143,7 @@ pub fn decode_delivery(delivery: &[u8], numbers: &mut [u32], ends: &mut [u32]) -
     }
 }
 
-pub fn encode_delivery(numbers: &[u32], ends: &[u32], delivery: &mut [u8]) -> WriteResult {
+pub fn encode_delivery(numbers: &[u32], ends: &[u32], word: u32, delivery: &mut [u8]) -> WriteResult {
     // SAFETY: all pairs are slices, and `delivery`, the one written, is `&mut`; those that are only read may overlap.
     unsafe {
         zwailmoor_encode_delivery(
@@ -137,20 +151,34 @@ pub fn encode_delivery(numbers: &[u32], ends: &[u32], delivery: &mut [u8]) -> Wr
             numbers.len(),
             ends.as_ptr(),
             ends.len(),
+            word,
             delivery.as_mut_ptr(),
             delivery.len(),
         )
     }
 }
 
-pub fn list_span(numbers: &[u32], ends: &[u32], list: usize) -> Span {
-    // SAFETY: both pairs are slices, and nothing is written.
-    unsafe { zwailmoor_list_span(numbers.as_ptr(), numbers.len(), ends.as_ptr(), ends.len(), list) }
+pub fn upgrade_delivery(old: &[u8], delivery: &mut [u8]) -> WriteResult {
+    // SAFETY: both pairs are slices, and `delivery`, the one written, is `&mut`.
+    unsafe { zwailmoor_upgrade_delivery(old.as_ptr(), old.len(), delivery.as_mut_ptr(), delivery.len()) }
 }
 
+pub fn downgrade_delivery(delivery: &[u8], old: &mut [u8]) -> WriteResult {
+    // SAFETY: both pairs are slices, and `old`, the one written, is `&mut`.
+    unsafe { zwailmoor_downgrade_delivery(delivery.as_ptr(), delivery.len(), old.as_mut_ptr(), old.len()) }
+}
+
+pub fn list_span(numbers: &[u32], ends: &[u32], word: u32, list: usize) -> Span {
+    // SAFETY: both pairs are slices, and nothing is written.
+    unsafe { zwailmoor_list_span(numbers.as_ptr(), numbers.len(), ends.as_ptr(), ends.len(), word, list) }
+}
+
+// As many arguments as in C.
+#[allow(clippy::too_many_arguments)]
 pub fn run(
     numbers: &[u32],
     ends: &[u32],
+    word: u32,
     packed: &[u8],
     bookmark: u64,
     codes: &[u8],
@@ -164,6 +192,7 @@ pub fn run(
             numbers.len(),
             ends.as_ptr(),
             ends.len(),
+            word,
             packed.as_ptr(),
             packed.len(),
             bookmark,
@@ -182,6 +211,7 @@ pub fn run(
 pub fn update(
     numbers: &mut [u32],
     ends: &mut [u32],
+    word: u32,
     packed: &[u8],
     list: usize,
     number: u32,
@@ -196,6 +226,7 @@ pub fn update(
             numbers.len(),
             ends.as_mut_ptr(),
             ends.len(),
+            word,
             packed.as_ptr(),
             packed.len(),
             list,

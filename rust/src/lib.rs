@@ -1,7 +1,8 @@
 //! Safe calls to Zwailmoor, a proved list set engine.
 //!
-//! Up to 32 ascending lists of numbers are lent as all numbers in one row and one end for each list. An expression combines them
-//! by union, intersection and difference. A [`run`] draws members of the result in order, or checks them, and hands back a
+//! Up to 32 ascending lists of numbers are lent as all numbers in one row, one end for each list, and a word that says which of them
+//! were delivered ([`ALL_DELIVERED`]). An expression combines them by union, intersection and difference; one that names a list
+//! which was not delivered is refused. A [`run`] draws members of the result in order, or checks them, and hands back a
 //! bookmark from which a later run goes on; [`members`] is all of them as an iterator. [`update`] changes a list by one number, and
 //! keeps a row of members current.
 //!
@@ -11,6 +12,8 @@
 //! # "(team or partners) and held, but not withdrawn"
 //!
 //! ```
+//! use zwailmoor::ALL_DELIVERED;
+//!
 //! // team, partners, held, withdrawn
 //! let numbers = [101, 104, 107, 110, 102, 104, 108, 101, 102, 104, 107, 108, 104, 107];
 //! let ends = [4, 7, 12, 14];
@@ -18,17 +21,21 @@
 //! // A difference of (an intersection of two: a union of two, lists 0 and 1; list 2) and list 3.
 //! let row = [64, 194, 130, 0, 1, 2, 3];
 //! let mut packed = [0; 41];
-//! let length = zwailmoor::pack_expression(&row, ends.len(), &mut packed)?;
+//! let length = zwailmoor::pack_expression(&row, ends.len(), ALL_DELIVERED, &mut packed)?;
 //! let packed = &packed[..length];
 //!
-//! let mut members = zwailmoor::members(&numbers, &ends, packed, 0, 100)?;
+//! let mut members = zwailmoor::members(&numbers, &ends, ALL_DELIVERED, packed, 0, 100)?;
 //! assert_eq!(members.next(), Some(101));
 //!
 //! // Broken off here, and taken up again later.
 //! let bookmark = members.bookmark();
 //! assert_eq!(bookmark, 102);
-//! let rest: Vec<u32> = zwailmoor::members(&numbers, &ends, packed, bookmark, 100)?.collect();
+//! let rest: Vec<u32> = zwailmoor::members(&numbers, &ends, ALL_DELIVERED, packed, bookmark, 100)?.collect();
 //! assert_eq!(rest, [102, 108]);
+//!
+//! // Had the withdrawn list not come, nobody could be shown. The bit of list 3 is 0, and its numbers are not there.
+//! let without = zwailmoor::members(&numbers[..12], &[4, 7, 12, 12], !(1 << 28), packed, 0, 100);
+//! assert_eq!(without.err(), Some(zwailmoor::Refusal::ListNotDelivered));
 //! # Ok::<(), zwailmoor::Refusal>(())
 //! ```
 
@@ -44,7 +51,8 @@ mod refusal;
 
 pub use call::{Call, Reply};
 pub use calls::{
-    decode_delivery, encode_delivery, list_part, pack_expression, run, unpack_expression, update, Change, DecodeResult, RunResult,
+    decode_delivery, downgrade_delivery, encode_delivery, list_part, pack_expression, run, unpack_expression, update,
+    upgrade_delivery, Change, DecodeResult, RunResult, ALL_DELIVERED,
 };
 pub use members::{members, Members};
 pub use refusal::Refusal;

@@ -11,6 +11,7 @@ use crate::{run, Call, Refusal, Reply};
 pub struct Members<'a> {
     numbers: &'a [u32],
     ends: &'a [u32],
+    word: u32,
     packed: &'a [u8],
     codes: Vec<u8>,
     arguments: Vec<u32>,
@@ -28,10 +29,11 @@ pub struct Members<'a> {
 /// longer by 1: so a page never needs more room than the numbers do.
 ///
 /// # Errors
-/// 7, 10, 11; of the expression 1 to 5; 12. The iterator itself refuses nothing, since what it has borrowed cannot change.
+/// 7, 10, 11; of the expression 1 to 5 and 18; 12. The iterator itself refuses nothing, since what it has borrowed cannot change.
 pub fn members<'a>(
     numbers: &'a [u32],
     ends: &'a [u32],
+    word: u32,
     packed: &'a [u8],
     bookmark: u64,
     page: usize,
@@ -40,6 +42,7 @@ pub fn members<'a>(
     let mut members = Members {
         numbers,
         ends,
+        word,
         packed,
         codes: vec![Call::Next.code(); page],
         arguments: vec![Call::Next.argument(); page],
@@ -63,6 +66,7 @@ impl Members<'_> {
         let result = run(
             self.numbers,
             self.ends,
+            self.word,
             self.packed,
             self.drawn,
             &self.codes,

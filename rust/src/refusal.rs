@@ -10,9 +10,9 @@ use std::fmt;
 /// More may come, so match with a wildcard arm:
 ///
 /// ```
-/// use zwailmoor::{unpack_expression, Refusal};
+/// use zwailmoor::{unpack_expression, Refusal, ALL_DELIVERED};
 ///
-/// let advice = match unpack_expression(&[0x40, 0x01], 2, &mut [0; 2]) {
+/// let advice = match unpack_expression(&[0x40, 0x01], 2, ALL_DELIVERED, &mut [0; 2]) {
 ///     Ok(nodes) => format!("{nodes} nodes"),
 ///     Err(Refusal::RowTooShort) => "lend a longer row".to_string(),
 ///     Err(refusal) => format!("refused {}: {refusal}", refusal.number()),
@@ -41,7 +41,7 @@ pub enum Refusal {
     GapPassesTop = 8,
     /// A delivered list is not packed in the least width.
     WidthNotLeast = 9,
-    /// An end falls or passes the row, or a list has more than 65,535 numbers.
+    /// An end falls or passes the row, or a list has more than 65,535 numbers, or has any and was not delivered.
     BadEnds = 10,
     /// A list does not ascend, or holds a number twice.
     NotAscending = 11,
@@ -57,6 +57,10 @@ pub enum Refusal {
     ListFull = 16,
     /// The kept row or its count is not that of the expression's members.
     RowNotCurrent = 17,
+    /// The expression or the change names a list that was not delivered.
+    ListNotDelivered = 18,
+    /// A list was not delivered, which the old form of a delivery cannot say.
+    DeliveryIncomplete = 19,
 }
 
 use Refusal::*;
@@ -93,6 +97,8 @@ impl Refusal {
         NoChange,
         ListFull,
         RowNotCurrent,
+        ListNotDelivered,
+        DeliveryIncomplete,
     ];
 
     /// The refusal's number, as it is in C.
@@ -127,7 +133,7 @@ impl fmt::Display for Refusal {
             NumberOfLists => "there are no lists, or more than 32",
             GapPassesTop => "a delivered number would pass 4,294,967,295",
             WidthNotLeast => "a delivered list is not packed in the least width",
-            BadEnds => "an end falls or passes the row, or a list has more than 65,535 numbers",
+            BadEnds => "an end falls or passes the row, or a list has more than 65,535 numbers, or has any and was not delivered",
             NotAscending => "a list does not ascend, or holds a number twice",
             BadBookmark => "the bookmark is above 4,294,967,296",
             LengthsDiffer => "codes and arguments differ in length, or the replies' row is shorter than the codes",
@@ -135,6 +141,8 @@ impl fmt::Display for Refusal {
             NoChange => "the number to add is in the list, or the number to remove is not",
             ListFull => "the list to add to has 65,535 numbers",
             RowNotCurrent => "the kept row or its count is not that of the expression's members",
+            ListNotDelivered => "the expression or the change names a list that was not delivered",
+            DeliveryIncomplete => "a list was not delivered, which the old form of a delivery cannot say",
         })
     }
 }

@@ -7,7 +7,7 @@ use std::path::{Path, PathBuf};
 use std::process::{Command, Output};
 use std::sync::OnceLock;
 
-use zwailmoor::{Call, Refusal, Reply};
+use zwailmoor::{Call, Refusal, Reply, ALL_DELIVERED};
 
 const TOP: u64 = 4_294_967_296;
 
@@ -27,8 +27,15 @@ fn header_constants() -> BTreeMap<String, u64> {
 
 fn value(name: &str, text: &str) -> u64 {
     let text = text.split("/*").next().unwrap_or(text).trim();
-    let digits = text.trim_start_matches("UINT64_C(").trim_end_matches(')');
-    digits.parse().unwrap_or_else(|_| panic!("ZWAILMOOR_{name} is {text}"))
+    let digits = text
+        .trim_start_matches("UINT64_C(")
+        .trim_start_matches("UINT32_C(")
+        .trim_end_matches(')');
+    let value = match digits.strip_prefix("0x") {
+        Some(digits) => u64::from_str_radix(digits, 16),
+        None => digits.parse(),
+    };
+    value.unwrap_or_else(|_| panic!("ZWAILMOOR_{name} is {text}"))
 }
 
 /// `EndsEarly` as ENDS_EARLY, and `AtOrPast(0)` as AT_OR_PAST.
@@ -54,6 +61,7 @@ fn constants() {
         ("DEPTH", 12),
         ("FIRST_BOOKMARK", 0),
         ("TOP_BOOKMARK", TOP),
+        ("ALL_DELIVERED", ALL_DELIVERED.into()),
         ("ACCEPTED", 0),
         ("DIFFERENCE", 64),
     ];
@@ -111,7 +119,7 @@ fn example() {
     assert_eq!((printed.status.code(), printed.stderr), (Some(0), vec![]));
 
     // A whole last page: its two members are followed by a page that only says finished.
-    let two = [0x01, 0x00, 0x04, 0x00, 0x08, 0x00, 0x00, 0x00, 0x08, 0x00];
+    let two = [0x01, 0x00, 0x06, 0x00, 0x04, 0x00, 0x00, 0x00, 0x04, 0x00];
     let printed = console(program, "two", &two, &[]);
     let text = String::from_utf8_lossy(&printed.stdout).into_owned();
     assert!(
@@ -128,19 +136,25 @@ fn example() {
 #[test]
 fn example_refuses() {
     let program = built_console();
-    let inputs: [(&[u8], &str); 7] = [
+    let inputs: [(&[u8], &str); 9] = [
         (&[], "the input is refused, ZWAILMOOR_ENDS_EARLY"),
         (&[0x01], "the input is refused, ZWAILMOOR_ENDS_EARLY"),
         (&[0x01, 0x00], "the delivery is refused, ZWAILMOOR_ENDS_EARLY"),
         (&[0x01, 0x00, 0x00], "the delivery is refused, ZWAILMOOR_NUMBER_OF_LISTS"),
         (
-            &[0x01, 0x02, 0x04, 0x00, 0x00],
+            &[0x01, 0x02, 0x06, 0x00, 0x00],
             "the expression is refused, ZWAILMOOR_NO_SUCH_LIST",
         ),
         (
-            &[0x01, 0x01, 0x04, 0x00, 0x00],
+            &[0x01, 0x01, 0x06, 0x00, 0x00],
             "the expression is refused, ZWAILMOOR_LEFT_OVER",
         ),
+        // The paper's own bytes are the old form's.
+        (
+            &[0x01, 0x00, 0x04, 0x00, 0x0C, 0x00, 0x00, 0x00, 0x08, 0x08],
+            "the delivery is refused, ZWAILMOOR_LEFT_OVER",
+        ),
+        (&[0x01, 0x00, 0x04], "the expression is refused, ZWAILMOOR_LIST_NOT_DELIVERED"),
         (&[0; 65_536], "has more than 65535 bytes"),
     ];
     for (input, sentence) in inputs {
@@ -149,6 +163,17 @@ fn example_refuses() {
         assert!(said.contains(sentence), "{said}");
         assert_eq!(printed.status.code(), Some(1));
     }
+}
+
+/// The list of those withdrawn did not come: it is not taken for an empty one, and nobody is shown.
+#[test]
+fn example_without_the_withdrawn() {
+    let sample = fs::read(root().join("samples/undelivered")).unwrap();
+    let printed = console(built_console(), "undelivered", &sample, &[]);
+    let expected = fs::read_to_string(root().join("examples/undelivered.out")).unwrap();
+    let both = [printed.stdout, printed.stderr].concat();
+    assert_eq!(String::from_utf8_lossy(&both), expected);
+    assert_eq!(printed.status.code(), Some(1));
 }
 
 #[test]

@@ -1,4 +1,4 @@
-/* Every call of the header once, on the paper's small inputs: 0 is returned where all are as the paper says. */
+/* Every call of the header once, on the papers' small inputs: 0 is returned where all are as the papers say. */
 #include "zwailmoor.h"
 
 #include <string.h>
@@ -13,11 +13,15 @@ static int expressions(void)
     static const uint8_t packed[2] = {0x40, 0x01}; /* list 0 minus list 1 */
     uint8_t row[3];
     uint8_t bytes[2];
-    zwailmoor_write_result out = zwailmoor_unpack_expression(packed, 2, 2, row, 3);
+    zwailmoor_write_result out = zwailmoor_unpack_expression(packed, 2, 2, ZWAILMOOR_ALL_DELIVERED, row, 3);
     REQUIRE(1, out.number == ZWAILMOOR_ACCEPTED && out.count == 3)
     REQUIRE(2, row[0] == ZWAILMOOR_DIFFERENCE && row[1] == 0 && row[2] == 1)
-    out = zwailmoor_pack_expression(row, 3, 2, bytes, 2);
+    out = zwailmoor_pack_expression(row, 3, 2, ZWAILMOOR_ALL_DELIVERED, bytes, 2);
     REQUIRE(3, out.number == ZWAILMOOR_ACCEPTED && out.count == 2 && memcmp(bytes, packed, 2) == 0)
+    out = zwailmoor_unpack_expression(packed, 2, 2, ~ZWAILMOOR_DELIVERED(1), row, 3);
+    REQUIRE(22, out.number == ZWAILMOOR_LIST_NOT_DELIVERED && out.count == 0)
+    out = zwailmoor_pack_expression(row, 3, 2, ZWAILMOOR_DELIVERED(1), bytes, 2);
+    REQUIRE(23, out.number == ZWAILMOOR_LIST_NOT_DELIVERED && out.count == 0)
     return 0;
 }
 
@@ -26,10 +30,10 @@ static int operators(void)
     static const uint8_t either[3] = {ZWAILMOOR_UNION(2), 0, 1};
     static const uint8_t both[3] = {ZWAILMOOR_INTERSECTION(2), 0, 1};
     uint8_t bytes[3];
-    zwailmoor_write_result out = zwailmoor_pack_expression(either, 3, 2, bytes, 3);
+    zwailmoor_write_result out = zwailmoor_pack_expression(either, 3, 2, ZWAILMOOR_ALL_DELIVERED, bytes, 3);
     REQUIRE(10, out.number == ZWAILMOOR_ACCEPTED && out.count == 3)
     REQUIRE(11, bytes[0] == 0x88 && bytes[1] == 0x00 && bytes[2] == 0x20)
-    out = zwailmoor_pack_expression(both, 3, 2, bytes, 3);
+    out = zwailmoor_pack_expression(both, 3, 2, ZWAILMOOR_ALL_DELIVERED, bytes, 3);
     REQUIRE(12, out.number == ZWAILMOOR_ACCEPTED && out.count == 3)
     REQUIRE(13, bytes[0] == 0xC8 && bytes[1] == 0x00 && bytes[2] == 0x20)
     return 0;
@@ -37,17 +41,34 @@ static int operators(void)
 
 static int deliveries(void)
 {
-    static const uint8_t delivery[8] = {0x04, 0x00, 0x0C, 0x00, 0x00, 0x00, 0x08, 0x08}; /* 2 3 5 */
+    static const uint8_t delivery[8] = {0x0A, 0x00, 0x06, 0x00, 0x00, 0x00, 0x04, 0x04}; /* 2 3 5, and one that did not come */
     uint32_t numbers[3];
-    uint32_t ends[1];
+    uint32_t ends[2];
     uint8_t bytes[8];
-    zwailmoor_decode_result in = zwailmoor_decode_delivery(delivery, 8, numbers, 3, ends, 1);
-    REQUIRE(4, in.number == ZWAILMOOR_ACCEPTED && in.lists == 1 && in.numbers == 3)
-    REQUIRE(5, numbers[0] == 2 && numbers[1] == 3 && numbers[2] == 5 && ends[0] == 3)
-    zwailmoor_write_result out = zwailmoor_encode_delivery(numbers, 3, ends, 1, bytes, 8);
+    zwailmoor_decode_result in = zwailmoor_decode_delivery(delivery, 8, numbers, 3, ends, 2);
+    REQUIRE(4, in.number == ZWAILMOOR_ACCEPTED && in.word == ZWAILMOOR_DELIVERED(0) && in.lists == 2 && in.numbers == 3)
+    REQUIRE(5, numbers[0] == 2 && numbers[1] == 3 && numbers[2] == 5 && ends[0] == 3 && ends[1] == 3)
+    zwailmoor_write_result out = zwailmoor_encode_delivery(numbers, 3, ends, 2, in.word, bytes, 8);
     REQUIRE(6, out.number == ZWAILMOOR_ACCEPTED && out.count == 8 && memcmp(bytes, delivery, 8) == 0)
-    zwailmoor_span part = zwailmoor_list_span(numbers, 3, ends, 1, 0);
+    zwailmoor_span part = zwailmoor_list_span(numbers, 3, ends, 2, in.word, 0);
     REQUIRE(7, part.start == 0 && part.size == 3)
+    part = zwailmoor_list_span(numbers, 3, ends, 2, in.word, 1);
+    REQUIRE(24, part.start == 3 && part.size == 0)
+    return 0;
+}
+
+static int moves(void)
+{
+    static const uint8_t old[8] = {0x04, 0x00, 0x0C, 0x00, 0x00, 0x00, 0x08, 0x08};      /* 2 3 5 */
+    static const uint8_t delivery[8] = {0x06, 0x00, 0x06, 0x00, 0x00, 0x00, 0x04, 0x04}; /* the same */
+    static const uint8_t incomplete[1] = {0x04};                                         /* one that did not come */
+    uint8_t bytes[9] = {77, 77, 77, 77, 77, 77, 77, 77, 77};
+    zwailmoor_write_result out = zwailmoor_upgrade_delivery(old, 8, bytes, 9);
+    REQUIRE(25, out.number == ZWAILMOOR_ACCEPTED && out.count == 8 && memcmp(bytes, delivery, 8) == 0 && bytes[8] == 77)
+    out = zwailmoor_downgrade_delivery(delivery, 8, bytes, 9);
+    REQUIRE(26, out.number == ZWAILMOOR_ACCEPTED && out.count == 8 && memcmp(bytes, old, 8) == 0 && bytes[8] == 77)
+    out = zwailmoor_downgrade_delivery(incomplete, 1, bytes, 9);
+    REQUIRE(27, out.number == ZWAILMOOR_DELIVERY_INCOMPLETE && out.count == 0 && memcmp(bytes, old, 8) == 0)
     return 0;
 }
 
@@ -59,9 +80,12 @@ static int runs(void)
     static const uint8_t codes[2] = {ZWAILMOOR_NEXT, ZWAILMOOR_CHECK};
     static const uint32_t arguments[2] = {0, 5};
     uint64_t replies[2];
-    zwailmoor_run_result result = zwailmoor_run(numbers, 3, ends, 1, list, 1, 3, codes, 2, arguments, 2, replies, 2);
+    zwailmoor_run_result result =
+        zwailmoor_run(numbers, 3, ends, 1, ZWAILMOOR_ALL_DELIVERED, list, 1, 3, codes, 2, arguments, 2, replies, 2);
     REQUIRE(8, result.number == ZWAILMOOR_ACCEPTED && result.moves == 2 && result.places[0] == 2 && result.bookmark == 5)
     REQUIRE(9, replies[0] == 3 && replies[1] == ZWAILMOOR_YES)
+    result = zwailmoor_run(numbers, 3, ends, 1, 0, list, 1, 3, codes, 2, arguments, 2, replies, 2);
+    REQUIRE(28, result.number == ZWAILMOOR_BAD_ENDS && result.moves == 0 && result.places[0] == 0 && result.bookmark == 0)
     return 0;
 }
 
@@ -72,14 +96,32 @@ static int updates(void)
     uint32_t ends[2] = {2, 3};
     uint32_t members[3] = {2, 3, 77};
     size_t count = 2;
-    REQUIRE(14, zwailmoor_update(numbers, 4, ends, 2, difference, 2, 1, 2, 255, members, 3, &count) == ZWAILMOOR_ACCEPTED)
+    const uint32_t all = ZWAILMOOR_ALL_DELIVERED;
+    REQUIRE(14, zwailmoor_update(numbers, 4, ends, 2, all, difference, 2, 1, 2, 255, members, 3, &count) == ZWAILMOOR_ACCEPTED)
     REQUIRE(15, numbers[1] == 3 && numbers[2] == 2 && numbers[3] == 5 && ends[0] == 2 && ends[1] == 4)
     REQUIRE(16, count == 1 && members[0] == 3 && members[1] == 3 && members[2] == 77)
-    REQUIRE(17, zwailmoor_update(numbers, 4, ends, 2, difference, 2, 0, 4, 1, members, 3, &count) == ZWAILMOOR_ROW_TOO_SHORT)
-    REQUIRE(20, zwailmoor_update(numbers, 4, ends, 2, difference, 2, (size_t)1 << 32, 4, 1, members, 3, &count) == ZWAILMOOR_NO_SUCH_LIST)
+    REQUIRE(17, zwailmoor_update(numbers, 4, ends, 2, all, difference, 2, 0, 4, 1, members, 3, &count) == ZWAILMOOR_ROW_TOO_SHORT)
+    REQUIRE(20, zwailmoor_update(numbers, 4, ends, 2, all, difference, 2, (size_t)1 << 32, 4, 1, members, 3, &count) == ZWAILMOOR_NO_SUCH_LIST)
     REQUIRE(21, numbers[2] == 2 && numbers[3] == 5 && ends[1] == 4 && count == 1 && members[0] == 3 && members[2] == 77)
-    REQUIRE(18, zwailmoor_update(numbers, 4, ends, 2, difference, 2, 1, 2, 0, members, 3, &count) == ZWAILMOOR_ACCEPTED)
+    REQUIRE(18, zwailmoor_update(numbers, 4, ends, 2, all, difference, 2, 1, 2, 0, members, 3, &count) == ZWAILMOOR_ACCEPTED)
     REQUIRE(19, numbers[2] == 5 && ends[1] == 3 && count == 2 && members[0] == 2 && members[1] == 3)
+    return 0;
+}
+
+static int undelivered_updates(void)
+{
+    static const uint8_t list[1] = {0x00};
+    static const uint8_t difference[2] = {0x40, 0x01}; /* list 0 minus list 1 */
+    uint32_t numbers[3] = {2, 3, 77};
+    uint32_t ends[2] = {2, 2};
+    uint32_t members[3] = {2, 3, 77};
+    size_t count = 2;
+    const uint32_t word = ZWAILMOOR_DELIVERED(0);
+    REQUIRE(29, zwailmoor_update(numbers, 3, ends, 2, word, list, 1, 1, 5, 1, members, 3, &count) == ZWAILMOOR_LIST_NOT_DELIVERED)
+    REQUIRE(30, zwailmoor_update(numbers, 3, ends, 2, word, difference, 2, 0, 5, 1, members, 3, &count) == ZWAILMOOR_LIST_NOT_DELIVERED)
+    REQUIRE(31, numbers[2] == 77 && ends[0] == 2 && ends[1] == 2 && count == 2 && members[2] == 77)
+    REQUIRE(32, zwailmoor_update(numbers, 3, ends, 2, word, list, 1, 0, 5, 1, members, 3, &count) == ZWAILMOOR_ACCEPTED)
+    REQUIRE(33, numbers[2] == 5 && ends[0] == 3 && ends[1] == 3 && count == 3 && members[2] == 5)
     return 0;
 }
 
@@ -88,6 +130,8 @@ int main(void)
     int wrong = expressions();
     wrong = wrong == 0 ? operators() : wrong;
     wrong = wrong == 0 ? deliveries() : wrong;
+    wrong = wrong == 0 ? moves() : wrong;
     wrong = wrong == 0 ? runs() : wrong;
-    return wrong == 0 ? updates() : wrong;
+    wrong = wrong == 0 ? updates() : wrong;
+    return wrong == 0 ? undelivered_updates() : wrong;
 }

@@ -2,7 +2,9 @@
 use crate::dice::pick;
 use crate::dice::roll;
 use crate::inputs::Lists;
+use crate::inputs::end;
 use crate::inputs::narrow;
+use crate::inputs::start;
 use crate::inputs::wide;
 use crate::requests::any_argument;
 use crate::requests::nudged;
@@ -66,24 +68,6 @@ fn add(case: u64) -> u8 {
         return 255;
     }
     (roll(case, ADD, 1) % 256) as u8
-}
-
-// Where list k begins and ends.
-fn start(l: Lists, k: usize) -> u64
-    ensures { λ r. ⌜ r < 4294967296 ⌝ }
-{
-    if k == 0 {
-        return 0;
-    }
-    let i = (k - 1) % 32;
-    wide(l.ends[i])
-}
-
-fn end(l: Lists, k: usize) -> u64
-    ensures { λ r. ⌜ r < 4294967296 ⌝ }
-{
-    let i = k % 32;
-    wide(l.ends[i])
 }
 
 // A number of list k, or any where it has none.

@@ -6,6 +6,9 @@ use crate::inputs::Bytes;
 use crate::inputs::Lists;
 use crate::inputs::narrow;
 use crate::inputs::wide;
+use crate::words::any_word;
+use crate::words::none_empty;
+use crate::words::turned;
 ghost use Prim.Native.Nat.{_<_, _≤_};
 
 // What the numbers of this file are drawn for.
@@ -18,6 +21,8 @@ const VALUE: u64 = 402;
 const LISTS: u64 = 403;
 
 const MARK: u64 = 404;
+
+const WORD: u64 = 405;
 
 // The bytes with one of them changed: a bit turned, or another value put.
 fn changed(case: u64, b: Bytes, turned: bool) -> Bytes
@@ -106,6 +111,17 @@ fn with_number(l: Lists, at: usize, above: u64) -> Lists
     d
 }
 
+// The lists with another word.
+fn with_word(l: Lists, word: u32) -> Lists
+    ensures { λ r. ⌜ (r .used ≤ 512) × (r .count ≤ 32) ⌝ }
+{
+    let mut d = l;
+    d.word = word;
+    d.used = l.used % 513;
+    d.count = l.count % 33;
+    d
+}
+
 // The end of a list.
 fn end_at(l: Lists, at: usize) -> u64
     ensures { λ r. ⌜ r < 4294967296 ⌝ }
@@ -124,11 +140,11 @@ fn below(case: u64, count: usize) -> usize {
     pick(case, LISTS, 1, count as u64 % 513) as usize
 }
 
-// Lists with one fault. Of 100 cases: two ends swapped in 18, an end past the row in 14, far past it
+// Lists with a fault in their numbers or ends. Of 100 cases: two ends swapped in 18, an end past the row in 14, far past it
 // in 4 of these, an end lowered in 14 or raised in 12 by one to four, a number equal to the next in 16
 // or above it in 16, no lists in 4, no fault in 6. A fault that hits two equal ends, or numbers of two
 // lists, can leave accepted lists.
-pub fn damaged_lists(case: u64, l: Lists) -> Lists
+fn damaged_rows(case: u64, l: Lists) -> Lists
     ensures { λ r. ⌜ (r .used ≤ 512) × (r .count ≤ 32) ⌝ }
 {
     let p = pick(case, LISTS, 0, 100);
@@ -160,6 +176,24 @@ pub fn damaged_lists(case: u64, l: Lists) -> Lists
         return d;
     }
     with_end(l, list, old)
+}
+
+// Lists with one fault. Of 100 cases: one list's bit turned in 12, no empty list delivered in 12, any word in 6, else a fault in
+// numbers or ends. A word can contradict the ends, leave a list that the expression names undelivered, or be accepted.
+pub fn damaged_lists(case: u64, l: Lists) -> Lists
+    ensures { λ r. ⌜ (r .used ≤ 512) × (r .count ≤ 32) ⌝ }
+{
+    let p = pick(case, WORD, 0, 100);
+    if p < 12 {
+        return with_word(l, turned(l.word, below(case, l.count)));
+    }
+    if p < 24 {
+        return with_word(l, none_empty(l));
+    }
+    if p < 30 {
+        return with_word(l, any_word(case));
+    }
+    damaged_rows(case, l)
 }
 
 // The bookmark in 90 of 100 cases, and else one above 4294967296: the next one, or the largest.

@@ -1,12 +1,13 @@
 // What a case is made of.
 ghost use Prim.Native.Nat.{_<_};
 
-// Lists as the paper lends them: all numbers in one row, and one end for each list.
+// Lists as the paper lends them: all numbers in one row, one end for each list, and the word that says which were delivered.
 pub struct Lists {
     pub numbers: [u32; 512],
     pub ends: [u32; 32],
     pub count: usize,
     pub used: usize,
+    pub word: u32,
 }
 
 // An expression in row form.
@@ -43,6 +44,24 @@ pub fn wide(x: u32) -> u64
 // The low 32 bits.
 pub fn narrow(x: u64) -> u32 {
     (x % 4294967296) as u32
+}
+
+// Where list k begins and ends.
+pub fn start(l: Lists, k: usize) -> u64
+    ensures { λ r. ⌜ r < 4294967296 ⌝ }
+{
+    if k == 0 {
+        return 0;
+    }
+    let i = (k - 1) % 32;
+    wide(l.ends[i])
+}
+
+pub fn end(l: Lists, k: usize) -> u64
+    ensures { λ r. ⌜ r < 4294967296 ⌝ }
+{
+    let i = k % 32;
+    wide(l.ends[i])
 }
 
 // The first n numbers of a row, or all where it has fewer. So a caller takes the part in use of a

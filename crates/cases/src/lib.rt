@@ -9,6 +9,7 @@ pub mod numbers;
 pub mod packing;
 pub mod requests;
 pub mod trees;
+pub mod words;
 
 pub use changes::Change;
 pub use changes::Kept;

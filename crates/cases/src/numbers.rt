@@ -4,6 +4,7 @@ use crate::dice::pick;
 use crate::dice::roll;
 use crate::inputs::Lists;
 use crate::inputs::narrow;
+use crate::words::word_of;
 ghost use Prim.Native.Nat.{_≤_};
 
 // What the numbers of this file are drawn for.
@@ -216,10 +217,22 @@ fn no_lists() -> Lists {
         ends: [0; 32],
         count: 0,
         used: 0,
+        word: 0,
     }
 }
 
-// Accepted lists: the ends ascend, each list ascends strictly, and the last end is the numbers used.
+// The lists with their word.
+fn with_word(l: Lists, case: u64) -> Lists
+    requires { ⌜ (l .used ≤ 512) × (1 ≤ l .count) × (l .count ≤ 32) ⌝ }
+    ensures { λ r. ⌜ (r .used ≤ 512) × (1 ≤ r .count) × (r .count ≤ 32) ⌝ }
+{
+    let mut m = l;
+    m.word = word_of(case, l);
+    m
+}
+
+// Accepted lists: the ends ascend, each list ascends strictly, the last end is the numbers used, and every list that has a number was
+// delivered.
 pub fn lists(case: u64) -> Lists
     ensures { λ r. ⌜ (r .used ≤ 512) × (1 ≤ r .count) × (r .count ≤ 32) ⌝ }
 {
@@ -230,5 +243,5 @@ pub fn lists(case: u64) -> Lists
         l = with_list(l, case, k);
         k += 1;
     }
-    l
+    with_word(l, case)
 }

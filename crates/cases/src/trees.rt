@@ -2,6 +2,8 @@
 use crate::dice::pick;
 use crate::dice::roll;
 use crate::inputs::Row;
+use crate::words::always;
+use crate::words::is_delivered;
 ghost use Prim.Native.Nat.{_≤_};
 
 // What the numbers of this file are drawn for.
@@ -282,8 +284,8 @@ fn at_least_one(x: usize) -> u64
     x as u64
 }
 
-// The list at a leaf. A wide intersection goes through the lists in turn.
-fn leaf(case: u64, lists: usize, place: u64) -> u64
+// One of so many lists, which a leaf is to name. A wide intersection goes through the lists in turn.
+fn any_list(case: u64, lists: usize, place: u64) -> u64
     ensures { λ r. ⌜ r ≤ 31 ⌝ }
 {
     let n = at_least_one(lists);
@@ -291,6 +293,17 @@ fn leaf(case: u64, lists: usize, place: u64) -> u64
         return (roll(case, LEAF, 1000) + place % 48) % n % 32;
     }
     pick(case, LEAF, place, n) % 32
+}
+
+// The list at a leaf: where that one was not delivered, the one that always is.
+fn leaf(case: u64, lists: usize, word: u32, place: u64) -> u64
+    ensures { λ r. ⌜ r ≤ 31 ⌝ }
+{
+    let list = any_list(case, lists, place);
+    if is_delivered(word, list as usize) {
+        return list;
+    }
+    always(case, lists as u64) % 32
 }
 
 // The deeper of two depths, if it owes a node.
@@ -333,7 +346,7 @@ fn placed(g: Growth, byte: u64, members: u64, depth: usize) -> Growth
 
 // The growth with its next node, or its root, which takes members only where 48 nodes and depth 12
 // leave room.
-fn grown(g: Growth, case: u64, lists: usize) -> Growth
+fn grown(g: Growth, case: u64, lists: usize, word: u32) -> Growth
     ensures { λ r. ⌜ (1 ≤ r .count) × (r .count ≤ 48) ⌝ }
 {
     let left = g.left;
@@ -352,20 +365,20 @@ fn grown(g: Growth, case: u64, lists: usize) -> Growth
     };
     let node = fitted(wanted(case, s), room, depth as u64);
     if node == 0 {
-        return placed(g, leaf(case, lists, place), 0, depth);
+        return placed(g, leaf(case, lists, word, place), 0, depth);
     }
     placed(g, node, members(node), depth)
 }
 
 // The growth with its next node, if one is owed.
-fn rest(g: Growth, case: u64, lists: usize) -> Growth
+fn rest(g: Growth, case: u64, lists: usize, word: u32) -> Growth
     requires { ⌜ (1 ≤ g .count) × (g .count ≤ 48) ⌝ }
     ensures { λ r. ⌜ (1 ≤ r .count) × (r .count ≤ 48) ⌝ }
 {
     if g.owed == 0 {
         return g;
     }
-    grown(g, case, lists)
+    grown(g, case, lists, word)
 }
 
 // A row that owes its root.
@@ -378,15 +391,15 @@ fn root() -> Growth {
     }
 }
 
-// An accepted expression over so many lists, at least one. Each turn places a node that is owed, and
+// An accepted expression over so many lists, at least one, with their word. Each turn places a node that is owed, and
 // nodes placed and owed are never more than 48 together, so none is owed after 48 turns.
-pub fn expression(case: u64, lists: usize) -> Row
+pub fn expression(case: u64, lists: usize, word: u32) -> Row
     ensures { λ r. ⌜ (1 ≤ r .count) × (r .count ≤ 48) ⌝ }
 {
-    let mut g = grown(root(), case, lists);
+    let mut g = grown(root(), case, lists, word);
     let mut turn: usize = 1;
     while turn < 48 {
-        g = rest(g, case, lists);
+        g = rest(g, case, lists, word);
         turn += 1;
     }
     let bytes = g.bytes;

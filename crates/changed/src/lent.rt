@@ -23,6 +23,7 @@ fn update_rows(
     numbers: &mut [u32],
     ends: &mut [u32],
     n: usize,
+    word: u32,
     packed: &[u8],
     c: Change,
     kept: &mut [u32],
@@ -32,6 +33,7 @@ fn update_rows(
         return update::update(
             numbers,
             &mut ends[0..n],
+            word,
             packed,
             c.list,
             c.number,
@@ -53,12 +55,15 @@ pub fn update(
 ) -> Updated {
     let mut ends = lists.ends;
     let mut held = count;
-    let number = update_rows(numbers, &mut ends, lists.count, packed, c, kept, &mut held);
+    let n = lists.count;
+    let word = lists.word;
+    let number = update_rows(numbers, &mut ends, n, word, packed, c, kept, &mut held);
     Updated {
         number,
         lists: Lists {
             ends,
-            count: lists.count,
+            count: n,
+            word,
         },
         count: held,
     }

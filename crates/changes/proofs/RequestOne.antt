@@ -6,24 +6,26 @@ use mathlib.Core.Bool.{Bool, true, false, not, _||_}
 use mathlib.Core.List.{List, [], _∷_, _++_, map, append-nil}
 use Prim.Native.Nat.{ℕ, zero, suc, _+_, _-_, _≤_, _<_}
 use native.Mathlib.Omega.{arith}
+use native.Mathlib.Nat.{zero-add}
 use lib.Dec.{ltb, leb, eqb}
 use borrow.Author.Tests.{ltb-true, ltb-false, lt-ltb, leb-true, le-leb, eqb-true, eq-eqb, not-true, not-false}
 use lib.ListN.{length, getD, take, drop, length-append, length-take, length-drop, take-append-drop, drop-of-length-le, List·getD-append}
 use lib.Seq.{take-at, drop-at, getD-take, getD-drop, getD-append-add}
 use Rattle.model.specs.Outcome.{Outcome, refused, accepted, _>>=_, _>>_, require, number-of, Success, Sent, sent, over}
-use Rattle.model.specs.Lists.{top, Numbers, lists-from, count-holds, ends-hold, Lent, lists-of}
+use Rattle.model.specs.Lists.{top, Numbers, lists-from, count-holds, ends-hold, delivered, word-holds, Lent, lists-of}
 use Rattle.model.specs.Sets.{among, member, all-numbers}
 use Rattle.model.specs.Run.{starting, Source, source-of}
 use Rattle.model.specs.Forms.{there}
 use Rattle.model.specs.Calls.{ends-from}
 use Rattle.model.specs.Demands.{Drawn}
-use Rattle.model.specs.Update.{Change, old-list, new-lists, changed, shown, same, shows, is-new, has-room, fits, update-of, as-left, update, updated}
+use Rattle.model.specs.Update.{Change, old-list, new-list, new-lists, changed, shown, same, shows, is-new, has-room, fits, update-of, as-left, update, updated}
 use Rattle.model.specs.RequestOne.{lent-left, kept-left, count-left, last-end, moved, opposite, Other, As-before, Kept-current, Request-one, Request-one-met, Request-one-holds}
 use Rattle.model.proofs.Order.{and-true, not-both, Up}
 use Rattle.model.proofs.Denoted.{members-up, members-are, from-all}
 use Rattle.model.proofs.Accepted.{bound, Accepted-lists, lists-accepted}
 use Rattle.model.proofs.Deliveries.{Storable}
-use Rattle.model.proofs.Laid.{ends-length, numbers-append, laid-numbers, lists-length, laid-over, storable-accepted}
+use Rattle.model.proofs.Laid.{ends-length, numbers-append, laid-numbers, lists-length, laid-over, storable-accepted, accepted-empty}
+use Rattle.model.proofs.Word.{empty-holds, empty-set}
 use Rattle.model.proofs.DemandThree.{source-accepted, up, drawn}
 use Rattle.model.proofs.Told.{zero-accepts, sent-number}
 use Rattle.changes.proofs.Told.{update-told}
@@ -31,8 +33,8 @@ use Rattle.changes.proofs.Changes.{new-at, new-other, new-many, new-amo
 
 -- ---- the tests, in their order: a number comes where its own test is the first that fails
 
-abbrev tests : {A : Type 0} → Bool → Bool → Bool → Bool → Bool → A → Outcome A
-tests a b c d e x = require 4 a >> (require 17 b >> (require 15 c >> (require 16 d >> (require 6 e >> accepted x))))
+abbrev tests : {A : Type 0} → Bool → Bool → Bool → Bool → Bool → Bool → A → Outcome A
+tests a w b c d e x = (require 4 a >> require 18 w) >> (require 17 b >> (require 15 c >> (require 16 d >> (require 6 e >> accepted x))))
 
 -- a test as a number, so that arithmetic goes through the cases
 abbrev bit : Bool → ℕ
@@ -47,26 +49,29 @@ is-false : (t : Bool) → bit t ≡ 0 → t ≡ false
 is-false true h = absurd (omega arith)
 is-false false h = refl
 
-record By-test (a b c d e : Bool) (n : ℕ) : Type 0 where
+record By-test (a w b c d e : Bool) (n : ℕ) : Type 0 where
   only-4 : n ≡ 4 → bit a ≡ 0
+  only-18 : n ≡ 18 → (bit a ≡ 1) × (bit w ≡ 0)
   only-17 : n ≡ 17 → bit b ≡ 0
   only-15 : n ≡ 15 → bit c ≡ 0
   only-16 : n ≡ 16 → bit d ≡ 0
   only-6 : n ≡ 6 → bit e ≡ 0
   past-4 : Other n (4 ∷ []) → bit a ≡ 1
-  past-17 : Other n (4 ∷ 17 ∷ []) → bit b ≡ 1
-  past-15 : Other n (4 ∷ 17 ∷ 15 ∷ []) → bit c ≡ 1
-  past-16 : Other n (4 ∷ 17 ∷ 15 ∷ 16 ∷ []) → bit d ≡ 1
-  past-6 : Other n (4 ∷ 17 ∷ 15 ∷ 16 ∷ 6 ∷ []) → (bit e ≡ 1) × (n ≡ 0)
+  past-18 : Other n (4 ∷ 18 ∷ []) → bit w ≡ 1
+  past-17 : Other n (4 ∷ 18 ∷ 17 ∷ []) → bit b ≡ 1
+  past-15 : Other n (4 ∷ 18 ∷ 17 ∷ 15 ∷ []) → bit c ≡ 1
+  past-16 : Other n (4 ∷ 18 ∷ 17 ∷ 15 ∷ 16 ∷ []) → bit d ≡ 1
+  past-6 : Other n (4 ∷ 18 ∷ 17 ∷ 15 ∷ 16 ∷ 6 ∷ []) → (bit e ≡ 1) × (n ≡ 0)
 
-by-test : {A : Type 0} (a b c d e : Bool) (x : A) → By-test a b c d e (number-of (tests a b c d e x))
+by-test : {A : Type 0} (a w b c d e : Bool) (x : A) → By-test a w b c d e (number-of (tests a w b c d e x))
 unfolding number-of
-by-test false b c d e x = omega arith
-by-test true false c d e x = omega arith
-by-test true true false d e x = omega arith
-by-test true true true false e x = omega arith
-by-test true true true true false x = omega arith
-by-test true true true true true x = omega arith
+by-test false w b c d e x = omega arith
+by-test true false b c d e x = omega arith
+by-test true true false c d e x = omega arith
+by-test true true true false d e x = omega arith
+by-test true true true true false e x = omega arith
+by-test true true true true true false x = omega arith
+by-test true true true true true true x = omega arith
 
 accepts-on : {A B : Type 0} (o : Outcome A) (f : A → B) → number-of o ≡ number-of (o >>= (λ a. accepted (f a)))
 unfolding number-of
@@ -130,6 +135,7 @@ map-at f (x ∷ xs) (suc i) h = map-at f xs i (omega arith)
 
 pub record Passed (l : Lent) (c : Change) (kept : List ℕ) (count : ℕ) (s : Source) : Type 0 where
   pub named : c .list < length (l .ends)
+  pub came : delivered (l .word) (c .list) ≡ true
   pub counted : count ≡ length (shown s)
   pub kept-is : take count kept ≡ shown s
   pub new : is-new c (s .lists) ≡ true
@@ -146,12 +152,12 @@ left-by l c kept s =
 
 module _ (l : Lent) (expression : List ℕ) (c : Change) (kept : List ℕ) (count : ℕ) (s : Source) (is : source-of l expression ≡ accepted s) where
   abbrev Tests : ℕ → Type 0
-  Tests = By-test (ltb (c .list) (length (l .ends))) (shows kept count (shown s)) (is-new c (s .lists)) (has-room c (s .lists)) (fits l kept (changed c s))
+  Tests = By-test (ltb (c .list) (length (l .ends))) (delivered (l .word) (c .list)) (shows kept count (shown s)) (is-new c (s .lists)) (has-room c (s .lists)) (fits l kept (changed c s))
 
   -- the tests that come after those of lists and expression
   tested : Tests (update l expression c kept count .number)
   unfolding update update-of there
-  tested = subst Tests (accepts-on (update-of l expression c kept count) as-left ∙ sent-number 0 (l .numbers ∷ l .ends ∷ kept ∷ (count ∷ []) ∷ []) _) (rw is (by-test _ _ _ _ _ (changed c s)))
+  tested = subst Tests (accepts-on (update-of l expression c kept count) as-left ∙ sent-number 0 (l .numbers ∷ l .ends ∷ kept ∷ (count ∷ []) ∷ []) _) (rw is (by-test _ _ _ _ _ _ (changed c s)))
 
   abbrev Past : List ℕ → Type 0
   Past = Other (update l expression c kept count .number)
@@ -159,16 +165,19 @@ module _ (l : Lent) (expression : List ℕ) (c : Change) (kept : List ℕ) (coun
   past-4 : Past (4 ∷ []) → c .list < length (l .ends)
   past-4 o = ltb-true (c .list) (length (l .ends)) (is-true _ (tested .past-4 o))
 
-  past-17 : Past (4 ∷ 17 ∷ []) → (count ≡ length (shown s)) × (take count kept ≡ shown s)
+  past-18 : Past (4 ∷ 18 ∷ []) → delivered (l .word) (c .list) ≡ true
+  past-18 o = is-true _ (tested .past-18 o)
+
+  past-17 : Past (4 ∷ 18 ∷ 17 ∷ []) → (count ≡ length (shown s)) × (take count kept ≡ shown s)
   unfolding shows
   past-17 o =
       let a = and-true (eqb count (length (shown s))) (same (take count kept) (shown s)) (is-true _ (tested .past-17 o)) in
       (eqb-true count (length (shown s)) (a .0), same-is (take count kept) (shown s) (a .1))
 
-  past-15 : Past (4 ∷ 17 ∷ 15 ∷ []) → is-new c (s .lists) ≡ true
+  past-15 : Past (4 ∷ 18 ∷ 17 ∷ 15 ∷ []) → is-new c (s .lists) ≡ true
   past-15 o = is-true _ (tested .past-15 o)
 
-  past-16 : Past (4 ∷ 17 ∷ 15 ∷ 16 ∷ []) → has-room c (s .lists) ≡ true
+  past-16 : Past (4 ∷ 18 ∷ 17 ∷ 15 ∷ 16 ∷ []) → has-room c (s .lists) ≡ true
   past-16 o = is-true _ (tested .past-16 o)
 
   -- a call that hands back 0 has passed them all
@@ -179,6 +188,7 @@ module _ (l : Lent) (expression : List ℕ) (c : Change) (kept : List ℕ) (coun
       let b = and-true (leb (length (all-numbers (new-lists c (s .lists)))) (length (l .numbers))) (leb (length (shown (changed c s))) (length kept)) (is-true _ (tested .past-6 (omega arith) .0)) in
       record {
         named = past-4 (omega arith);
+        came = past-18 (omega arith);
         counted = a .0;
         kept-is = a .1;
         new = past-15 (omega arith);
@@ -197,6 +207,7 @@ module _ (l : Lent) (expression : List ℕ) (c : Change) (kept : List ℕ) (coun
       rw (
         is,
         lt-ltb (c .list) (length (l .ends)) (p .named),
+        p .came,
         eq-eqb count (length (shown s)) (p .counted),
         p .kept-is,
         same-refl (shown s),
@@ -209,6 +220,11 @@ module _ (l : Lent) (expression : List ℕ) (c : Change) (kept : List ℕ) (coun
 
   only-4 : update l expression c kept count .number ≡ 4 → length (s .lists) ≤ c .list
   only-4 h = omega (arith, lists-many l (s .lists) (source-accepted l expression s is .0), ltb-false (c .list) (length (l .ends)) (is-false _ (tested .only-4 h)))
+
+  only-18 : update l expression c kept count .number ≡ 18 → (c .list < length (s .lists)) × (delivered (l .word) (c .list) ≡ false)
+  only-18 h =
+      let o = tested .only-18 h in
+      (omega (arith, lists-many l (s .lists) (source-accepted l expression s is .0), ltb-true (c .list) (length (l .ends)) (is-true _ (o .0))), is-false _ (o .1))
 
   only-17 : update l expression c kept count .number ≡ 17 → count ≡ length (shown s) → take count kept ≡ shown s → ⊥
   unfolding shows
@@ -291,20 +307,25 @@ module _ (l : Lent) (expression : List ℕ) (c : Change) (kept : List ℕ) (coun
     stored : Storable ls
     stored = new-storable c (s .lists) (storable .0) low (p .new) (p .room)
 
-    accepts : source-of (lent-left back) expression ≡ accepted (changed c s)
+    -- only a delivered list is changed, so the word still holds
+    agrees : word-holds (l .word) 0 0 (ends-from 0 ls) ≡ true
+    unfolding new-lists
+    agrees = empty-holds (l .word) 0 0 ls (empty-set (l .word) 0 (s .lists) (c .list) (new-list c (s .lists)) (accepted-empty l (s .lists) are-lists) (ap (delivered (l .word)) (zero-add (c .list)) ∙ p .came))
+
+    accepts : source-of (lent-left (l .word) back) expression ≡ accepted (changed c s)
     unfolding source-of
     accepts =
         rw (
-          laid-over ls (drop (length (all-numbers ls)) (l .numbers)) (ap count-holds (new-many c (s .lists)) ∙ storable .1) stored,
+          laid-over (l .word) ls (drop (length (all-numbers ls)) (l .numbers)) (ap count-holds (new-many c (s .lists)) ∙ storable .1) stored agrees,
           ends-many l c (s .lists) are-lists,
           source-accepted l expression s is .1,
         )
 
-    numbers-left : Numbers (lent-left back .numbers)
+    numbers-left : Numbers (lent-left (l .word) back .numbers)
     numbers-left = numbers-append (all-numbers ls) (drop (length (all-numbers ls)) (l .numbers)) (laid-numbers ls stored) (λ i. rw (getD-drop (length (all-numbers ls)) (l .numbers) i 0) (n _))
 
-    afresh : Drawn (lent-left back) expression (changed c s) (starting 0)
-    afresh = drawn (lent-left back) expression numbers-left (changed c s) accepts (starting 0) (omega arith)
+    afresh : Drawn (lent-left (l .word) back) expression (changed c s) (starting 0)
+    afresh = drawn (lent-left (l .word) back) expression numbers-left (changed c s) accepts (starting 0) (omega arith)
 
     drawn-all : afresh .members ≡ ms
     unfolding afresh drawn
@@ -331,10 +352,10 @@ module _ (l : Lent) (expression : List ℕ) (c : Change) (kept : List ℕ) (coun
         (ap (λ (j : ℕ). getD (before ++ behind) j 0) at ∙ getD-append-add before behind i 0 ∙ map-at (moved (c .adds)) (drop (c .list) (l .ends)) i (omega (arith, length-drop (c .list) (l .ends)))
         ∙ ap (moved (c .adds)) (getD-drop (c .list) (l .ends) i 0 ∙ ap (λ (j : ℕ). getD (l .ends) j 0) on))
 
-    last-left : last-end (lent-left back) ≡ length (all-numbers ls)
+    last-left : last-end (lent-left (l .word) back) ≡ length (all-numbers ls)
     last-left = omega (arith, last-is 0 ls)
 
-    numbers-many : length (lent-left back .numbers) ≡ length (l .numbers)
+    numbers-many : length (lent-left (l .word) back .numbers) ≡ length (l .numbers)
     numbers-many = written-many (all-numbers ls) (l .numbers) (p .numbers-fit)
 
     row-many : length (kept-left back) ≡ length kept
@@ -366,9 +387,10 @@ module _ (l : Lent) (expression : List ℕ) (c : Change) (kept : List ℕ) (coun
     all-long : length (all-numbers (s .lists)) ≡ last-end l
     all-long = omega (arith, ap length all-used, length-take (last-end l) (l .numbers), last-within)
 
-    passes-back : Passed (lent-left back) (opposite c) (kept-left back) (count-left back) (changed c s)
+    passes-back : Passed (lent-left (l .word) back) (opposite c) (kept-left back) (count-left back) (changed c s)
     passes-back = record {
       named = omega (arith, p .named, ends-many l c (s .lists) are-lists);
+      came = p .came;
       counted = refl;
       kept-is = row-is;
       new = opposite-new c (s .lists) (p .new) ups has-list;
@@ -377,9 +399,9 @@ module _ (l : Lent) (expression : List ℕ) (c : Change) (kept : List ℕ) (coun
       members-fit = rw lists-back (omega (arith, row-many, ap length (p .kept-is), length-take count kept));
     }
 
-    taken-back : As-before l expression c kept count (update (lent-left back) expression (opposite c) (kept-left back) (count-left back))
+    taken-back : As-before l expression c kept count (update (lent-left (l .word) back) expression (opposite c) (kept-left back) (count-left back))
     taken-back =
-        rw (passed-leaves (lent-left back) expression (opposite c) (kept-left back) (count-left back) (changed c s) accepts passes-back, lists-back) (record {
+        rw (passed-leaves (lent-left (l .word) back) expression (opposite c) (kept-left back) (count-left back) (changed c s) accepts passes-back, lists-back) (record {
           accepts = refl;
           ends = ends-back;
           numbers = take-at (all-numbers (s .lists)) _ (last-end l) all-long ∙ all-used;
@@ -420,11 +442,13 @@ over-source l expression c kept count n low s is =
       current = λ z. let p = zero-passes l expression c kept count s is z in rw (passed-leaves l expression c kept count s is p) (kept-current l expression c kept count s is n low p);
       nothing-changed = refused-leaves (l .numbers ∷ l .ends ∷ kept ∷ (count ∷ []) ∷ []) _;
       only-4 = only-4 l expression c kept count s is;
+      only-18 = only-18 l expression c kept count s is;
       only-17 = only-17 l expression c kept count s is;
       only-15 = only-15 l expression c kept count s is;
       only-16 = only-16 l expression c kept count s is n;
       only-6 = only-6 l expression c kept count s is n;
       past-4 = λ o. omega (arith, past-4 l expression c kept count s is o, lists-many l (s .lists) (source-accepted l expression s is .0));
+      past-18 = past-18 l expression c kept count s is;
       past-17 = past-17 l expression c kept count s is;
       past-15 = λ o. absent-or-present (c .adds) _ (past-15 l expression c kept count s is o);
       past-16 = λ o a. room-left (c .adds) _ (past-16 l expression c kept count s is o) a;

@@ -179,6 +179,6 @@ fn delivered(
         return not_asked();
     }
     let numbers = first_numbers(&row, got.numbers);
-    let lists = evaluator::laid(first_numbers(&stops, got.lists));
+    let lists = evaluator::laid(first_numbers(&stops, got.lists), got.word);
     list(numbers, lists, packed, room, number, count, members)
 }

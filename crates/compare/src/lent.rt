@@ -1,5 +1,6 @@
 // A case's lists and where its run begins, as the second evaluator takes them; and the engine's run from these. What else comes to
 // lists, or to where a run begins, is handed on here.
+use crate::rows::wide;
 use cases::first_numbers;
 use evaluator::Begin;
 use evaluator::Lists;
@@ -7,7 +8,21 @@ use model::RunResult;
 
 pub fn lists_of(made: cases::Lists) -> Lists {
     let ends = made.ends;
-    evaluator::laid(first_numbers(&ends, made.count))
+    evaluator::laid(first_numbers(&ends, made.count), made.word)
+}
+
+// The word's bits of lists that are there, of which there are at most 32; the others 0.
+pub fn word_there(lists: Lists) -> u32 {
+    let absent = 32 - lists.count % 33;
+    let bits = (wide(lists.word) >> absent) << absent;
+    (bits % 4294967296) as u32
+}
+
+// Whether every list was delivered.
+pub fn all_delivered(lists: Lists) -> bool {
+    let mut all = lists;
+    all.word = u32::MAX;
+    word_there(lists) == word_there(all)
 }
 
 pub fn begin_of(made: cases::Begin) -> Begin {
@@ -46,6 +61,7 @@ pub fn run(
     engine::run(
         numbers,
         first_numbers(&ends, lists.count),
+        lists.word,
         packed,
         begin.bookmark,
         codes,

@@ -1,5 +1,5 @@
-// One generated case given to the engine and to the second evaluator: both stored forms written and read back, a run, the run
-// broken off and resumed, and the program's list.
+// One generated case given to the engine and to the second evaluator: both stored forms written and read back, the delivery moved to
+// its old form and back, a run, the run broken off and resumed, and the program's list.
 pub mod evaluated;
 pub mod lent;
 pub mod rows;
@@ -279,7 +279,7 @@ fn worse_lists(case: u64, made: cases::Lists) -> cases::Lists {
 
 // The expression is packed by the engine; whether it reads back is compared beside it.
 fn packed_of(case: u64, lists: Lists) -> Packed {
-    let e = cases::expression(case, lists.count);
+    let e = cases::expression(case, lists.count, lists.word);
     let row = e.bytes;
     stored::pack(first_bytes(&row, e.count), lists)
 }

@@ -15,7 +15,7 @@ pub struct Totals {
     pub moves: u64,
     pub came: u64,
     pub went: u64,
-    pub numbers: [u64; 18],
+    pub numbers: [u64; 20],
 }
 
 pub fn none() -> Totals {
@@ -29,7 +29,7 @@ pub fn none() -> Totals {
         moves: 0,
         came: 0,
         went: 0,
-        numbers: [0; 18],
+        numbers: [0; 20],
     }
 }
 
@@ -65,9 +65,9 @@ fn with_replies(t: Totals, replies: [u64; 32]) -> Totals {
 }
 
 fn index(number: u32) -> usize
-    ensures { λ r. ⌜ r < 18 ⌝ }
+    ensures { λ r. ⌜ r < 20 ⌝ }
 {
-    (number % 18) as usize
+    (number % 20) as usize
 }
 
 fn one_if(x: bool) -> u64 {

@@ -1,4 +1,2 @@
 -- The laws that belong to no one function.
-pub mod Reading
-pub mod Bounds
 pub mod Whole

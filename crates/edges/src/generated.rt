@@ -46,6 +46,11 @@ fn show_lists(l: Lists) {
     let ends = l.ends;
     text::put(b", ends");
     all_numbers(first_numbers(&ends, l.count));
+    show_word(l.word);
+}
+
+fn show_word(word: u32) {
+    text::with(b", word ", text::wide_32(word));
 }
 
 fn show_calls(c: Calls) {
@@ -122,6 +127,7 @@ fn show_update(case: u64, differs: u32) {
     let ends = lists.ends;
     text::put(b", ends");
     all_numbers(first_numbers(&ends, lists.count));
+    show_word(lists.word);
     show_packed(a.expression);
     lines::change(a.change);
     show_kept(a.kept);
@@ -163,9 +169,9 @@ fn head(name: &[u8], count: u64, differ: u64) {
 }
 
 // How many runs each number came to.
-fn print_numbers(numbers: [u64; 18]) {
+fn print_numbers(numbers: [u64; 20]) {
     let mut n: usize = 0;
-    while n < 18 {
+    while n < 20 {
         if numbers[n] != 0 {
             by_number(n, numbers[n]);
         }

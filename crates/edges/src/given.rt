@@ -68,17 +68,18 @@ pub fn ends(lists: &[u64]) -> Row32 {
 }
 
 // How the lists lie in their numbers.
-pub fn laid(lists: &[u64]) -> Lists {
+pub fn laid(lists: &[u64], word: u32) -> Lists {
     let given = ends(lists);
     let row = given.row;
-    evaluator::laid(marks::front_32(&row, given.count))
+    evaluator::laid(marks::front_32(&row, given.count), word)
 }
 
-// So many lists, of which only their number counts.
-pub fn counted(lists: usize) -> Lists {
+// So many lists, of which only their number and the word count.
+pub fn counted(lists: usize, word: u32) -> Lists {
     Lists {
         ends: [0; 80],
         count: lists,
+        word,
     }
 }
 
@@ -115,7 +116,7 @@ pub fn reads(nodes: &[u8], lists: Lists) -> bool {
 // An expression in row form, packed; nothing where it does not read.
 pub fn packed(nodes: &[u8], lists: Lists) -> Row8 {
     let mut row = [0u8; 80];
-    let written = forms::pack_expression(nodes, lists.count, &mut row);
+    let written = forms::pack_expression(nodes, lists.count, lists.word, &mut row);
     Row8 {
         row,
         count: written.count,

@@ -16,7 +16,8 @@ use evaluator::Change;
 use evaluator::Lists;
 
 // How many fields a kind of line needs, with the name and the kind itself, and how many it knows. Those that it does not need may be
-// missing from the end of a line on; the default of each is said where it is read, by `words::one_or`.
+// missing from the end of a line on; the default of each is said where it is read, by `words::one_or`. A kind that takes the word of
+// lists has it last.
 struct Bounds {
     least: usize,
     most: usize,
@@ -28,22 +29,37 @@ fn from(least: usize, most: usize) -> Bounds {
 
 fn fields(kind: &[u8]) -> Bounds {
     if check::same(kind, b"run") {
-        return from(6, 6);
+        return from(6, 7);
     }
     if check::same(kind, b"rows") {
-        return from(8, 9);
+        return from(8, 10);
     }
     if check::same(kind, b"test") {
-        return from(4, 4);
+        return from(4, 5);
     }
     if check::same(kind, b"part") {
-        return from(5, 5);
+        return from(5, 6);
     }
     if check::same(kind, b"update") {
-        return from(10, 10);
+        return from(10, 11);
     }
-    // every other kind ends with a room
-    from(4, 5)
+    fields_of_bytes(kind)
+}
+
+// Of the kinds that have a room.
+fn fields_of_bytes(kind: &[u8]) -> Bounds {
+    if moves(kind) {
+        return from(3, 4);
+    }
+    if check::same(kind, b"decode") || check::same(kind, b"members") {
+        return from(4, 5);
+    }
+    from(4, 6)
+}
+
+// Whether it is a kind that moves a delivery from one form to the other.
+fn moves(kind: &[u8]) -> bool {
+    check::same(kind, b"upgrade") || check::same(kind, b"downgrade")
 }
 
 // A line that lacks a field, or has one that its kind does not know, does not read.
@@ -59,6 +75,9 @@ pub fn case(line: &[u8]) -> Line {
     }
     if lends_lists(kind) {
         return of_lists(line, kind);
+    }
+    if moves(kind) {
+        return moved(line, kind);
     }
     of_bytes(line, kind)
 }
@@ -81,30 +100,44 @@ fn room(line: &[u8], k: usize, most: u64) -> Numeral {
     words::one_or(line, k, most, most)
 }
 
-// name | run | lists | nodes | bookmark | calls, where the nodes read: only `rows` has an expression that is refused
+// The word of lists, the last field that a kind knows: of a line that lacks it, every list was delivered.
+fn word(line: &[u8], kind: &[u8]) -> Numeral {
+    let last = std::num::wrapping_sub_usize(fields(kind).most, 1);
+    words::one_or(line, last, words::TOP, words::TOP)
+}
+
+// name | run | lists | nodes | bookmark | calls [| word], where the nodes read: only `rows` has an expression that is refused
 fn run(line: &[u8]) -> Line {
     let lists = words::read(line, 2, Form::Lists);
+    let word = word(line, b"run");
+    if !lists.good || !word.good {
+        return Line::Unread;
+    }
+    let row = lists.row;
+    let front = marks::front_64(&row, lists.count);
+    let laid = given::laid(front, given::number_of(word.value));
+    let numbers = given::numbers(front);
+    let number_row = numbers.row;
+    run_of_nodes(line, marks::front_32(&number_row, numbers.count), laid)
+}
+
+fn run_of_nodes(line: &[u8], numbers: &[u32], lists: Lists) -> Line {
     let nodes = given::nodes(line, 3);
     let bookmark = words::one(line, 4, words::TOP_64);
     let calls = words::read(line, 5, Form::Calls);
-    if !lists.good || !nodes.good || !bookmark.good || !calls.good {
+    if !nodes.good || !bookmark.good || !calls.good {
         return Line::Unread;
     }
-    let list_row = lists.row;
     let node_row = nodes.row;
     let call_row = calls.row;
-    let list_front = marks::front_64(&list_row, lists.count);
     let node_front = marks::front_8(&node_row, nodes.count);
-    let laid = given::laid(list_front);
-    if !given::reads(node_front, laid) {
+    if !given::reads(node_front, lists) {
         return Line::Unread;
     }
-    let numbers = given::numbers(list_front);
-    let number_row = numbers.row;
     runs::run_from(
         words::field(line, 0),
-        marks::front_32(&number_row, numbers.count),
-        laid,
+        numbers,
+        lists,
         node_front,
         Begin {
             bookmark: bookmark.value,
@@ -113,14 +146,16 @@ fn run(line: &[u8]) -> Line {
     )
 }
 
-// name | kind | numbers | ends, and what else the kind has. The word ramp stands for the numbers 0 to 65,535.
+// name | kind | numbers | ends, what else the kind has, and [| word]. The word ramp stands for the numbers 0 to 65,535.
 fn of_lists(line: &[u8], kind: &[u8]) -> Line {
     let ends = given::whole(line, 3);
-    if !ends.good {
+    let word = word(line, kind);
+    if !ends.good || !word.good {
         return Line::Unread;
     }
     let end_row = ends.row;
-    let laid = evaluator::laid(marks::front_32(&end_row, ends.count));
+    let end_front = marks::front_32(&end_row, ends.count);
+    let laid = evaluator::laid(end_front, given::number_of(word.value));
     if check::same(words::field(line, 2), b"ramp") {
         let row = long::ramp();
         return lent_lists(line, kind, &row, laid);
@@ -255,6 +290,23 @@ fn most_room(kind: &[u8]) -> u64 {
     }
 }
 
+// name | kind | bytes [| room]
+fn moved(line: &[u8], kind: &[u8]) -> Line {
+    let bytes = given::bytes(line, 2);
+    let room = room(line, 3, 64);
+    if !bytes.good || !room.good {
+        return Line::Unread;
+    }
+    let row = bytes.row;
+    stored::moved(
+        words::field(line, 0),
+        kind,
+        marks::front_8(&row, bytes.count),
+        size(room),
+    );
+    Line::Run
+}
+
 // name | kind | bytes | a number [| room]
 fn of_bytes(line: &[u8], kind: &[u8]) -> Line {
     let bytes = bytes_of(line, kind);
@@ -273,22 +325,37 @@ fn of_bytes(line: &[u8], kind: &[u8]) -> Line {
     )
 }
 
-// members | input | zero bytes behind it [| room], unpack and pack | .. | number of lists [| room], decode | .. | room [| room]
+// members | input | zero bytes behind it [| room], decode | .. | room [| room], others | .. | number of lists [| room]
 fn lent_bytes(line: &[u8], kind: &[u8], bytes: &[u8], n: usize, room: usize) -> Line {
     let name = words::field(line, 0);
     if check::same(kind, b"members") {
         return programs::list(name, bytes, n, room);
     }
+    if check::same(kind, b"decode") && n <= 64 {
+        stored::decode(name, bytes, n, room);
+        return Line::Run;
+    }
+    let word = word(line, kind);
+    if !word.good {
+        return Line::Unread;
+    }
+    read_over(
+        name,
+        kind,
+        bytes,
+        given::counted(n, given::number_of(word.value)),
+        room,
+    )
+}
+
+// unpack and pack | .. | number of lists [| room [| word]]
+fn read_over(name: &[u8], kind: &[u8], bytes: &[u8], lists: Lists, room: usize) -> Line {
     if check::same(kind, b"unpack") {
-        stored::unpack(name, bytes, given::counted(n), room);
+        stored::unpack(name, bytes, lists, room);
         return Line::Run;
     }
     if check::same(kind, b"pack") {
-        stored::pack(name, bytes, given::counted(n), room);
-        return Line::Run;
-    }
-    if check::same(kind, b"decode") && n <= 64 {
-        stored::decode(name, bytes, n, room);
+        stored::pack(name, bytes, lists, room);
         return Line::Run;
     }
     Line::Unread

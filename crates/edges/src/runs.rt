@@ -23,6 +23,7 @@ pub fn run_from(
     text::put(name);
     text::put(b",");
     text::lists(numbers, lists);
+    text::word(lists);
     if begin.bookmark != 0 {
         text::with(b", bookmark ", begin.bookmark);
     }
@@ -122,7 +123,7 @@ fn changed(replies: &[u64; 64], from: usize) {
 // How many nodes a packed expression has.
 fn node_count(packed: &[u8], lists: Lists) -> usize {
     let mut row = [0u8; 48];
-    forms::unpack_expression(packed, lists.count, &mut row).count
+    forms::unpack_expression(packed, lists.count, lists.word, &mut row).count
 }
 
 fn other_parts_zero(ran: RunResult) -> bool {

@@ -3,12 +3,13 @@ use crate::marks;
 use crate::text;
 use evaluator::Lists;
 use model::DecodeResult;
+use model::WriteResult;
 
 // A packed expression to its row form, in a row of so many nodes, at most 64.
 pub fn unpack(name: &[u8], bytes: &[u8], lists: Lists, room: usize) {
     let mut row = [text::MARK; 80];
     let n = room % 65;
-    let w = forms::unpack_expression(bytes, lists.count, &mut row[0..n]);
+    let w = forms::unpack_expression(bytes, lists.count, lists.word, &mut row[0..n]);
     text::put(name);
     text::put(b", unpack");
     text::bytes(bytes);
@@ -30,7 +31,7 @@ fn written_nodes(number: u32, count: usize, row: &[u8; 80]) {
 pub fn pack(name: &[u8], nodes: &[u8], lists: Lists, room: usize) {
     let mut row = [text::MARK; 80];
     let n = room % 65;
-    let w = forms::pack_expression(nodes, lists.count, &mut row[0..n]);
+    let w = forms::pack_expression(nodes, lists.count, lists.word, &mut row[0..n]);
     text::put(name);
     text::put(b", pack");
     text::nodes(nodes);
@@ -42,8 +43,9 @@ pub fn pack(name: &[u8], nodes: &[u8], lists: Lists, room: usize) {
 pub fn encode(name: &[u8], numbers: &[u32], laid: Lists, room: usize) {
     let mut row = [text::MARK; 80];
     let n = room % 65;
-    let ends = laid.ends;
-    let w = encode::encode_delivery(numbers, marks::front_32(&ends, laid.count), &mut row[0..n]);
+    let all = laid.ends;
+    let ends = marks::front_32(&all, laid.count);
+    let w = encode::encode_delivery(numbers, ends, laid.word, &mut row[0..n]);
     text::put(name);
     text::put(b", encode");
     text::lent(numbers, laid);
@@ -54,6 +56,7 @@ pub fn encode(name: &[u8], numbers: &[u32], laid: Lists, room: usize) {
 fn with_lists(lists: Lists, room: usize) {
     text::put(b", ");
     text::counted(lists.count, b"list");
+    text::word(lists);
     into(room);
 }
 
@@ -70,6 +73,26 @@ fn written_bytes(number: u32, count: usize, row: &[u8; 80]) {
         text::refused(number, count == 0);
     }
     changed(row, count);
+}
+
+// A delivery moved from its old form to the new one, or back, in so many bytes, at most 64.
+pub fn moved(name: &[u8], kind: &[u8], bytes: &[u8], room: usize) {
+    let mut row = [text::MARK; 80];
+    let n = room % 65;
+    let w = move_delivery(kind, bytes, &mut row[0..n]);
+    text::put(name);
+    text::put(b", ");
+    text::put(kind);
+    text::bytes(bytes);
+    into(room);
+    written_bytes(w.number, w.count, &row);
+}
+
+fn move_delivery(kind: &[u8], bytes: &[u8], row: &mut [u8]) -> WriteResult {
+    if check::same(kind, b"upgrade") {
+        return convert::upgrade_delivery(bytes, row);
+    }
+    convert::downgrade_delivery(bytes, row)
 }
 
 // The end of a line: the row behind what was written holds what it held.
@@ -102,13 +125,13 @@ fn into_both(number_room: usize, end_room: usize) {
 
 fn delivered(d: DecodeResult, numbers: &[u32; 80], ends: &[u32; 80]) {
     if d.number == 0 {
-        text::counted(d.lists, b"list");
-        text::put(b", ");
-        text::counted(d.numbers, b"number");
-        let row = marks::front_32(numbers, d.numbers);
-        text::lists(row, evaluator::laid(marks::front_32(ends, d.lists)));
+        read_lists(
+            d,
+            marks::front_32(numbers, d.numbers),
+            marks::front_32(ends, d.lists),
+        );
     } else {
-        text::refused(d.number, d.lists == 0 && d.numbers == 0);
+        text::refused(d.number, d.word == 0 && d.lists == 0 && d.numbers == 0);
     }
     text::rows(
         compare::hold(numbers, d.numbers, text::MARK_32)
@@ -117,10 +140,19 @@ fn delivered(d: DecodeResult, numbers: &[u32; 80], ends: &[u32; 80]) {
     text::end();
 }
 
+fn read_lists(d: DecodeResult, numbers: &[u32], ends: &[u32]) {
+    text::with(b"word ", text::wide_32(d.word));
+    text::put(b", ");
+    text::counted(d.lists, b"list");
+    text::put(b", ");
+    text::counted(d.numbers, b"number");
+    text::lists(numbers, evaluator::laid(ends, d.word));
+}
+
 // The tests of lent lists.
 pub fn test(name: &[u8], numbers: &[u32], laid: Lists) {
     let ends = laid.ends;
-    let number = lists::test_lists(numbers, marks::front_32(&ends, laid.count));
+    let number = lists::test_lists(numbers, marks::front_32(&ends, laid.count), laid.word);
     text::put(name);
     text::put(b", test");
     text::lent(numbers, laid);
@@ -137,8 +169,8 @@ pub fn test(name: &[u8], numbers: &[u32], laid: Lists) {
 pub fn part(name: &[u8], numbers: &[u32], laid: Lists, k: usize) {
     let row = laid.ends;
     let ends = marks::front_32(&row, laid.count);
-    let span = lists::list_span(numbers, ends, k);
-    let part = lists::list_part(numbers, ends, k);
+    let span = lists::list_span(numbers, ends, laid.word, k);
+    let part = lists::list_part(numbers, ends, laid.word, k);
     text::put(name);
     text::with(b", list ", text::wide(k));
     text::put(b" of");

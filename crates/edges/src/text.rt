@@ -130,13 +130,26 @@ fn digit(x: u8) -> u8 {
     if d < 10 { 48 + d } else { 55 + d }
 }
 
-// Lists as they are lent.
-pub fn lent(row: &[u32], laid: Lists) {
+// Lists as they lie in one row.
+pub fn lying(row: &[u32], laid: Lists) {
     let ends = laid.ends;
     put(b" numbers");
     numbers(row);
     put(b", ends");
     numbers(first_numbers(&ends, laid.count));
+}
+
+// Lists as they are lent.
+pub fn lent(row: &[u32], laid: Lists) {
+    lying(row, laid);
+    word(laid);
+}
+
+// The word, where it does not say of every list that it was delivered.
+pub fn word(laid: Lists) {
+    if laid.word != u32::MAX {
+        with(b", word ", wide_32(laid.word));
+    }
 }
 
 // Lists by their numbers, each in braces.
@@ -147,9 +160,10 @@ pub fn lists(row: &[u32], laid: Lists) {
 }
 
 fn list(row: &[u32], laid: Lists, k: usize) {
-    let ends = laid.ends;
+    let all = laid.ends;
+    let ends = first_numbers(&all, laid.count);
     with(b" L", wide(k));
     put(b" {");
-    numbers(lists::list_part(row, first_numbers(&ends, laid.count), k));
+    numbers(lists::list_part(row, ends, laid.word, k));
     put(b" }");
 }

@@ -89,7 +89,7 @@ fn came_back(
 ) {
     text::put(b":");
     if left.number == 0 {
-        text::lent(left_numbers, left.lists);
+        text::lying(left_numbers, left.lists);
         rest(left_kept, left.count);
         return;
     }

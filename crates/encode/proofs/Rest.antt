@@ -3,13 +3,15 @@ use mathlib.Core.Path.{_≡_, sym, ap, _∙_}
 use mathlib.Core.List.{List, [], _∷_, _++_, flatMap}
 use Prim.Native.Nat.{ℕ, _+_, _-_, _≤_, _<_}
 use native.Mathlib.Omega.{arith}
+use native.Mathlib.Numerals.{add-one}
 use lib.ListN.{length, getD, take, drop, set, length-append, length-take, drop-of-length-le}
 use lib.Seq.{set-getD, getD-at}
-use Rattle.model.specs.Lists.{part, lists-from}
+use Rattle.model.specs.Lists.{part, lists-from, delivered}
+use Rattle.model.specs.Delivery.{Supplied, supplied-from}
 use Rattle.lists.proofs.Left.{left-cons}
 use Rattle.fields.specs.Rows.{lay}
 use Rattle.fields.proofs.Rows.{lay-cons, lay-drop}
-use Rattle.encode.specs.Measures.{list-bits, lists-bits}
+use Rattle.encode.specs.Measures.{as-supplied, list-bits, lists-bits}
 
 module _ (numbers ends : List ℕ) (start k : ℕ) where
   pub rest-more : k < length ends → lists-from numbers start (drop k ends) ≡ part numbers start (getD ends k 0) ∷ lists-from numbers (getD ends k 0) (drop (k + 1) ends)
@@ -20,9 +22,19 @@ module _ (numbers ends : List ℕ) (start k : ℕ) where
   unfolding lists-from
   rest-none h = rw (drop-of-length-le ends {i = k} h)
 
-pub bits-cons : (l : List ℕ) (ls : List (List ℕ)) → length (lists-bits (l ∷ ls)) ≡ length (list-bits l) + length (lists-bits ls)
+  -- as they are supplied, with a word
+  module _ (word : ℕ) where
+    pub supplied-more : k < length ends → supplied-from word k (lists-from numbers start (drop k ends)) ≡ as-supplied (delivered word k) (part numbers start (getD ends k 0)) ∷ supplied-from word (k + 1) (lists-from numbers (getD ends k 0) (drop (k + 1) ends))
+    unfolding supplied-from
+    supplied-more h = rw (rest-more h, add-one k)
+
+    pub supplied-none : length ends ≤ k → supplied-from word k (lists-from numbers start (drop k ends)) ≡ []
+    unfolding supplied-from
+    supplied-none h = rw (rest-none h)
+
+pub bits-cons : (a : Supplied) (ss : List Supplied) → length (lists-bits (a ∷ ss)) ≡ length (list-bits a) + length (lists-bits ss)
 unfolding flatMap
-bits-cons l ls = length-append (list-bits l) (lists-bits ls)
+bits-cons a ss = length-append (list-bits a) (lists-bits ss)
 
 -- a row in which x is said to stand at k, and xs behind it
 pub lay-head : (row : List ℕ) (k x : ℕ) (xs : List ℕ) → k < length row → row ≡ lay row k (x ∷ xs) → (getD row k 0 ≡ x) × (row ≡ lay row (k + 1) xs)

@@ -1,26 +1,27 @@
--- The bits of a list by its length, and the width of its gaps, here where 16 bits of count stand ahead. Assumes nothing.
+-- The bits of a list by its length, and the width of its gaps, here where a bit and 16 bits of count stand ahead. Assumes nothing.
 use mathlib.Core.Path.{_≡_, refl, sym, ap, ap₂, _∙_}
-use mathlib.Core.Bool.{true}
+use mathlib.Core.Bool.{Bool, true, false, cond}
 use mathlib.Core.List.{List, [], _∷_, _++_, append-nil}
 use Prim.Native.Nat.{ℕ, suc, _+_, _-_, _*_, _^_, _≤_, _<_}
 use native.Mathlib.Nat.{mul-suc, mul-le-mul-left, mul-le-mul-right}
 use native.Mathlib.Numerals.{add-one}
 use native.Mathlib.Omega.{arith}
 use lib.Dec.{ltb}
-use lib.ListN.{length, getD, drop}
+use lib.ListN.{length, getD, drop, length-append}
 use borrow.Author.Tests.{ltb-true}
 use Rattle.model.specs.Outcome.{accepted}
 use Rattle.model.specs.Lists.{top, Numbers, rises, ascending}
 use Rattle.model.specs.Fields.{field}
 use Rattle.model.specs.Delivery
-use Rattle.model.specs.Delivery.{largest-gap, width, gap-bits, body-bits, by-count, list-size}
+use Rattle.model.specs.Delivery.{largest-gap, width, gap-bits, body-bits, undelivered, came, supplied-numbers, bit-and-count, by-bit, list-size}
 use Rattle.model.proofs.Order.{and-true}
 use Rattle.model.proofs.Accepted.{required, accepted-same}
 use Rattle.model.proofs.Bits.{field-length}
 use Rattle.model.proofs.Deliveries.{width-is}
 use Rattle.model.proofs.Sizes.{gaps-width, list-size-is as size-is}
 use Rattle.lists.specs.Rise.{largest, rise}
-use Rattle.encode.specs.Measures.{list-bits, gap-width}
+use Rattle.fields.proofs.Fields.{field-join}
+use Rattle.encode.specs.Measures.{as-supplied, list-bits, gap-width}
 
 -- ---- the gaps
 
@@ -60,40 +61,58 @@ risen l g e = let a = required 11 (ascending l) (accepted (largest l)) g (sym e)
 
 -- ---- the bits of a list
 
-pub bits-none : (l : List ℕ) → length l ≡ 0 → list-bits l ≡ field 16 (length l)
-unfolding Delivery.list-bits body-bits
-bits-none [] h = append-nil (field 16 0)
+-- the bit of a list that came and its count are one field
+bits-came : (l : List ℕ) → length l ≤ 65535 → list-bits (came l) ≡ field 17 (65536 + length l) ++ body-bits l
+unfolding Delivery.list-bits bit-and-count supplied-numbers
+bits-came l h = ap (λ (head : List Bool). head ++ body-bits l) (sym (field-join 1 16 1 (length l) (omega arith)))
+
+pub bits-none : (l : List ℕ) → length l ≡ 0 → list-bits (came l) ≡ field 17 (65536 + length l)
+unfolding body-bits
+bits-none [] h = bits-came [] (omega arith) ∙ append-nil (field 17 65536)
 bits-none (x ∷ l) h = absurd (omega arith)
 
-pub bits-one : (l : List ℕ) → length l ≡ 1 → list-bits l ≡ field 16 (length l) ++ field 32 (getD l 0 0)
-unfolding Delivery.list-bits body-bits
+pub bits-one : (l : List ℕ) → length l ≡ 1 → list-bits (came l) ≡ field 17 (65536 + length l) ++ field 32 (getD l 0 0)
+unfolding body-bits
 bits-one [] h = absurd (omega arith)
-bits-one (x ∷ []) h = refl
+bits-one (x ∷ []) h = bits-came (x ∷ []) (omega arith)
 bits-one (x ∷ y ∷ l) h = absurd (omega arith)
 
-pub bits-more : (l : List ℕ) → 2 ≤ length l → list-bits l ≡ field 16 (length l) ++ (field 32 (getD l 0 0) ++ (field 5 (gap-width l - 1) ++ gap-bits (gap-width l) (getD l 0 0) (drop 1 l)))
-unfolding Delivery.list-bits body-bits gap-width largest
-bits-more [] h = absurd (omega arith)
-bits-more (x ∷ []) h = absurd (omega arith)
-bits-more (x ∷ y ∷ l) h = refl
+pub bits-more : (l : List ℕ) → 2 ≤ length l → length l ≤ 65535 → list-bits (came l) ≡ field 17 (65536 + length l) ++ (field 32 (getD l 0 0) ++ (field 5 (gap-width l - 1) ++ gap-bits (gap-width l) (getD l 0 0) (drop 1 l)))
+unfolding body-bits gap-width largest
+bits-more [] h f = absurd (omega arith)
+bits-more (x ∷ []) h f = absurd (omega arith)
+bits-more (x ∷ y ∷ l) h f = bits-came (x ∷ y ∷ l) f
+
+pub bits-undelivered : list-bits undelivered ≡ field 1 0
+unfolding Delivery.list-bits body-bits bit-and-count supplied-numbers
+bits-undelivered = append-nil (field 1 0)
 
 width-same : (l : List ℕ) → gaps-width l ≡ gap-width l
 unfolding gaps-width gap-width largest
 width-same [] = refl
 width-same (x ∷ l) = refl
 
-pub list-size-is : (l : List ℕ) → length (list-bits l) ≡ list-size 16 (length l) (gap-width l)
-list-size-is l = size-is by-count l ∙ ap₂ (λ (head w : ℕ). list-size head (length l) w) (field-length 16 (length l)) (width-same l)
+pub list-size-is : (l : List ℕ) → length (list-bits (came l)) ≡ list-size 17 (length l) (gap-width l)
+unfolding bit-and-count supplied-numbers
+list-size-is l =
+    let head : length (field 1 1 ++ field 16 (length l)) ≡ 17 = omega (arith, length-append (field 1 1) (field 16 (length l)), field-length 1 1, field-length 16 (length l)) in
+    size-is by-bit (came l) ∙ ap₂ (λ (n w : ℕ). list-size n (length l) w) head (width-same l)
 
-pub size-small : (n w : ℕ) → n ≤ 65535 → w ≤ 32 → list-size 16 n w ≤ 4194304
+-- of one that came or did not
+pub supplied-size : (b : Bool) (l : List ℕ) → length (list-bits (as-supplied b l)) ≡ cond b (list-size 17 (length l) (gap-width l)) 1
+supplied-size true l = list-size-is l
+supplied-size false l = ap length bits-undelivered ∙ field-length 1 0
+
+pub supplied-small : (b : Bool) (l : List ℕ) → length l ≤ 65535 → gap-width l ≤ 32 → length (list-bits (as-supplied b l)) ≤ 4194304
 unfolding list-size
-size-small n w h l = omega (arith, mul-le-mul-right (n - 1) l)
+supplied-small true l h w = omega (arith, supplied-size true l, mul-le-mul-right (length l - 1) w)
+supplied-small false l h w = omega (arith, supplied-size false l)
 
-pub size-some : (n w : ℕ) → 1 ≤ n → 48 ≤ list-size 16 n w
+pub size-some : (n w : ℕ) → 1 ≤ n → 49 ≤ list-size 17 n w
 unfolding list-size
 size-some n w h = omega arith
 
-pub size-any : (n w : ℕ) → 16 ≤ list-size 16 n w
+pub size-any : (n w : ℕ) → 17 ≤ list-size 17 n w
 unfolding list-size
 size-any n w = omega arith
 

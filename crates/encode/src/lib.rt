@@ -1,15 +1,15 @@
 // A delivery, written. One pass over the numbers tests that each list ascends and finds the width of its gaps, a second one
 // writes; in between, the row is known to be long enough.
 ghost use mathlib.Core.Path.{_≡_};
-ghost use mathlib.Core.Bool.{true};
+ghost use mathlib.Core.Bool.{true, cond};
 ghost use Prim.Native.Nat.{_+_, _-_, _*_, _^_, _≤_, _<_};
 ghost use lib.ListN.{length, getD, drop};
 ghost use Rattle.model.specs.Lists.{lists-from, ends-hold, lend};
-ghost use Rattle.model.specs.Delivery.{gap-bits, list-size};
+ghost use Rattle.model.specs.Delivery.{gap-bits, came, list-size, supplied};
 ghost use Rattle.model.specs.Calls.{written, encode-delivery};
 ghost use Rattle.fields.specs.Positions.{put-bits};
 ghost use Rattle.encode.specs.Fits.{Gaps-fit, List-fits, Lists-fit};
-ghost use Rattle.encode.specs.Measures.{list-bits, lists-bits, measured};
+ghost use Rattle.encode.specs.Measures.{as-supplied, list-bits, lists-bits, measured};
 use lists::Rise;
 use model::WriteResult;
 
@@ -36,18 +36,22 @@ fn narrow(x: usize) -> u32
     x as u32
 }
 
-// How many bits a list of so many numbers takes, 16 of them its count, with gaps of w bits.
-fn bits_of(count: usize, w: usize) -> usize
+// How many bits a list of so many numbers takes, 17 of them its bit and its count, with gaps of w bits; one that did not
+// come has its bit alone.
+fn bits_of(delivered: bool, count: usize, w: usize) -> usize
     requires { ⌜ (count ≤ 65535) × (w ≤ 32) ⌝ }
-    ensures { λ r. ⌜ r ≡ list-size 16 count w ⌝ }
+    ensures { λ r. ⌜ r ≡ cond delivered (list-size 17 count w) 1 ⌝ }
 {
+    if !delivered {
+        return 1;
+    }
     if count == 0 {
-        return 16;
+        return 17;
     }
     if count == 1 {
-        return 48;
+        return 49;
     }
-    53 + w * (count - 1)
+    54 + w * (count - 1)
 }
 
 // A width as a byte.
@@ -59,9 +63,9 @@ fn byte(w: u32) -> u8
 }
 
 // The first pass: whether every list ascends, the bits of all lists, and the width of each list's gaps.
-fn survey(numbers: &[u32], ends: &[u32]) -> Measure
+fn survey(numbers: &[u32], ends: &[u32], word: u32) -> Measure
     requires { ⌜ (ends-hold (length (now numbers)) 0 (now ends) ≡ true) × (length (now ends) ≤ 32) ⌝ }
-    ensures { λ r. ⌜ r ≡ measured (lists-from (now (numbers .entry)) 0 (now (ends .entry))) ⌝ }
+    ensures { λ r. ⌜ r ≡ measured word (lists-from (now (numbers .entry)) 0 (now (ends .entry))) ⌝ }
 {
     let mut widths = [0u8; 32];
     let mut bits: usize = 0;
@@ -78,7 +82,7 @@ fn survey(numbers: &[u32], ends: &[u32]) -> Measure
         };
         let w = fields::width_of(largest);
         widths[k] = byte(w);
-        bits += bits_of(stop - start, wide(w));
+        bits += bits_of(fields::word_bit(word, k), stop - start, wide(w));
         start = stop;
         k += 1;
     }
@@ -107,21 +111,35 @@ fn put_gaps(s: &mut [u8], at: usize, w: usize, list: &[u32]) -> usize
     next
 }
 
-// Puts a list, whose gaps have w bits, from the bit position at on.
-fn put_list(s: &mut [u8], at: usize, list: &[u32], w: usize) -> usize
-    requires { ⌜ List-fits (now s) at (now list) w ⌝ }
-    ensures { λ r. ⌜ (r ≡ at + length (list-bits (now (list .entry)))) × (now (s .exit) ≡ put-bits (now (s .entry)) at (list-bits (now (list .entry)))) ⌝ }
+// Puts a list that came, whose gaps have w bits, from the bit position at on. Its bit 1 and the 16 bits of its count are put
+// as one field, which costs no more than the count alone.
+fn put_delivered(s: &mut [u8], at: usize, list: &[u32], w: usize) -> usize
+    requires { ⌜ List-fits (now s) at true (now list) w ⌝ }
+    ensures { λ r. ⌜ (r ≡ at + length (list-bits (came (now (list .entry))))) × (now (s .exit) ≡ put-bits (now (s .entry)) at (list-bits (came (now (list .entry))))) ⌝ }
 {
-    fields::put_field(s, at, 16, narrow(list.len()));
+    let head = 65536 + list.len();
+    fields::put_field(s, at, 17, narrow(head));
     if list.len() == 0 {
-        return at + 16;
+        return at + 17;
     }
-    fields::put_field(s, at + 16, 32, list[0]);
+    fields::put_field(s, at + 17, 32, list[0]);
     if list.len() == 1 {
-        return at + 48;
+        return at + 49;
     }
-    fields::put_field(s, at + 48, 5, narrow(w - 1));
-    put_gaps(s, at + 53, w, list)
+    fields::put_field(s, at + 49, 5, narrow(w - 1));
+    put_gaps(s, at + 54, w, list)
+}
+
+// Puts a list from the bit position at on; of one that did not come, a 0 and nothing more.
+fn put_list(s: &mut [u8], at: usize, delivered: bool, list: &[u32], w: usize) -> usize
+    requires { ⌜ List-fits (now s) at delivered (now list) w ⌝ }
+    ensures { λ r. ⌜ (r ≡ at + length (list-bits (as-supplied delivered (now (list .entry))))) × (now (s .exit) ≡ put-bits (now (s .entry)) at (list-bits (as-supplied delivered (now (list .entry))))) ⌝ }
+{
+    if delivered {
+        return put_delivered(s, at, list, w);
+    }
+    fields::put_field(s, at, 1, 0);
+    at + 1
 }
 
 // A width as a number of bits.
@@ -132,16 +150,23 @@ fn wide_byte(x: u8) -> usize
 }
 
 // Puts all lists, whose gaps have these widths, behind the number of lists.
-fn put_lists(s: &mut [u8], numbers: &[u32], ends: &[u32], widths: [u8; 32]) -> usize
-    requires { ⌜ Lists-fit (now s) (now numbers) (now ends) widths ⌝ }
-    ensures { λ r. ⌜ (r ≡ 6 + length (lists-bits (lists-from (now (numbers .entry)) 0 (now (ends .entry))))) × (now (s .exit) ≡ put-bits (now (s .entry)) 6 (lists-bits (lists-from (now (numbers .entry)) 0 (now (ends .entry))))) ⌝ }
+fn put_lists(s: &mut [u8], numbers: &[u32], ends: &[u32], word: u32, widths: [u8; 32]) -> usize
+    requires { ⌜ Lists-fit (now s) (now numbers) (now ends) word widths ⌝ }
+    ensures { λ r. ⌜ (r ≡ 6 + length (lists-bits (supplied word (lists-from (now (numbers .entry)) 0 (now (ends .entry)))))) × (now (s .exit) ≡ put-bits (now (s .entry)) 6 (lists-bits (supplied word (lists-from (now (numbers .entry)) 0 (now (ends .entry)))))) ⌝ }
 {
     let mut next: usize = 6;
     let mut start: usize = 0;
     let mut k: usize = 0;
     while k < ends.len() {
         let stop = wide(ends[k]);
-        next = put_list(s, next, &numbers[start..stop], wide_byte(widths[k]));
+        let delivered = fields::word_bit(word, k);
+        next = put_list(
+            s,
+            next,
+            delivered,
+            &numbers[start..stop],
+            wide_byte(widths[k]),
+        );
         start = stop;
         k += 1;
     }
@@ -149,16 +174,16 @@ fn put_lists(s: &mut [u8], numbers: &[u32], ends: &[u32], widths: [u8; 32]) -> u
 }
 
 // Writes a delivery of the lists into the lent bytes.
-pub fn encode_delivery(numbers: &[u32], ends: &[u32], bytes: &mut [u8]) -> WriteResult
-    ensures { λ r. ⌜ written r (now (bytes .exit)) ≡ encode-delivery (lend (now (numbers .entry)) (now (ends .entry))) (now (bytes .entry)) ⌝ }
+pub fn encode_delivery(numbers: &[u32], ends: &[u32], word: u32, bytes: &mut [u8]) -> WriteResult
+    ensures { λ r. ⌜ written r (now (bytes .exit)) ≡ encode-delivery (lend (now (numbers .entry)) (now (ends .entry)) word) (now (bytes .entry)) ⌝ }
 {
     if !lists::count_holds(ends.len()) {
         return WriteResult::refused(7);
     }
-    if !lists::ends_hold(numbers.len(), ends) {
+    if !lists::lists_hold(numbers.len(), ends, word) {
         return WriteResult::refused(10);
     }
-    let m = survey(numbers, ends);
+    let m = survey(numbers, ends, word);
     if m.number != 0 {
         return WriteResult::refused(m.number);
     }
@@ -169,7 +194,7 @@ pub fn encode_delivery(numbers: &[u32], ends: &[u32], bytes: &mut [u8]) -> Write
     }
     let widths = m.widths;
     fields::put_field(bytes, 0, 6, narrow(ends.len()));
-    let next = put_lists(bytes, numbers, ends, widths);
+    let next = put_lists(bytes, numbers, ends, word, widths);
     fields::put_field(bytes, next, 8 * count - next, 0);
     WriteResult { number: 0, count }
 }

@@ -210,25 +210,26 @@ fn answer(
 
 // A run over lent lists and a packed expression, from a bookmark: one reply for each call in the lent row, and the moves, places
 // and bookmark after the last; or a refusal, by "lists (7, 10, 11, each over all lists before the next), the packed expression
-// (1 to 5), bookmark (12), row lengths (13)". The first promise is the whole call, for all arguments; the second is demand 3,
+// (1 to 5)", with 18, "bookmark (12), row lengths (13)". The first promise is the whole call, for all arguments; the second is demand 3,
 // of what it sends back.
 pub fn run(
     numbers: &[u32],
     ends: &[u32],
+    word: u32,
     packed: &[u8],
     bookmark: u64,
     codes: &[u8],
     arguments: &[u32],
     replies: &mut [u64],
 ) -> RunResult
-    ensures call { λ r. ⌜ ran r (now (replies .exit)) ≡ run-call (lend (now (numbers .entry)) (now (ends .entry))) (now (packed .entry)) (starting bookmark) (now (codes .entry)) (now (arguments .entry)) (now (replies .entry)) ⌝ }
-    ensures demand { λ r. ⌜ Third-demand-met (lend (now (numbers .entry)) (now (ends .entry))) (now (packed .entry)) (starting bookmark) (now (codes .entry)) (now (arguments .entry)) (now (replies .entry)) (ran r (now (replies .exit))) ⌝ }
+    ensures call { λ r. ⌜ ran r (now (replies .exit)) ≡ run-call (lend (now (numbers .entry)) (now (ends .entry)) word) (now (packed .entry)) (starting bookmark) (now (codes .entry)) (now (arguments .entry)) (now (replies .entry)) ⌝ }
+    ensures demand { λ r. ⌜ Third-demand-met (lend (now (numbers .entry)) (now (ends .entry)) word) (now (packed .entry)) (starting bookmark) (now (codes .entry)) (now (arguments .entry)) (now (replies .entry)) (ran r (now (replies .exit))) ⌝ }
 {
-    let number = lists::test_lists(numbers, ends);
+    let number = lists::test_lists(numbers, ends, word);
     if number != 0 {
         return RunResult::refused(number);
     }
-    let read = expression::read_expression(Form::Packed, packed, ends.len());
+    let read = expression::read_expression(Form::Packed, packed, ends.len(), word);
     if read.number != 0 {
         return RunResult::refused(read.number);
     }

@@ -4,6 +4,7 @@
 use crate::lent;
 use crate::lent::Lists;
 use crate::lent::end;
+use crate::lent::is_delivered;
 use crate::lent::size;
 use crate::lent::start;
 use crate::lent::stops;
@@ -175,6 +176,14 @@ fn change_refused(
     0
 }
 
+// What is refused of the list to change: 4 if it is not there, then 18 if it was not delivered, else 0.
+fn list_refused(lists: Lists, k: usize) -> u32 {
+    if lists.count <= k {
+        return 4;
+    }
+    if is_delivered(lists, k) { 0 } else { 18 }
+}
+
 // The number at a place, 0 behind the row.
 fn number_at(numbers: &[u32], i: usize) -> u32 {
     if i < numbers.len() { numbers[i] } else { 0 }
@@ -295,8 +304,9 @@ pub fn update(
     if read.number != 0 {
         return refusal(read.number, lists, count);
     }
-    if lists.count <= c.list {
-        return refusal(4, lists, count);
+    let number = list_refused(lists, c.list);
+    if number != 0 {
+        return refusal(number, lists, count);
     }
     let all = lists.ends;
     let ends = stops(&all, lists.count);

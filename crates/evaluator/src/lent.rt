@@ -1,15 +1,16 @@
 // The lent lists: where each one begins and ends, and what the paper refuses of them.
 
-// How the lent numbers lie in lists: how many lists there are, and where each ends. Whatever else is said of lists belongs here; the
-// numbers stay a slice beside it, since a struct is handed on by value. There is room for more ends than are accepted, so that these
-// can be handed in.
+// How the lent numbers lie in lists: how many lists there are, where each ends, and the word that says which were delivered. Whatever
+// else is said of lists belongs here; the numbers stay a slice beside it, since a struct is handed on by value. There is room for more
+// ends than are accepted, so that these can be handed in.
 pub struct Lists {
     pub ends: [u32; 80],
     pub count: usize,
+    pub word: u32,
 }
 
-// Lists with these ends. The ends behind the 80th are left out; so many lists are refused for their count.
-pub fn laid(ends: &[u32]) -> Lists {
+// Lists with these ends and this word. The ends behind the 80th are left out; so many lists are refused for their count.
+pub fn laid(ends: &[u32], word: u32) -> Lists {
     let mut row = [0u32; 80];
     for k in 0..80usize {
         if k < ends.len() {
@@ -19,7 +20,13 @@ pub fn laid(ends: &[u32]) -> Lists {
     Lists {
         ends: row,
         count: ends.len(),
+        word,
     }
+}
+
+// Whether list k, which is there, was delivered: its bit of the word is 1. The bit of list 0 is the most significant one.
+pub fn is_delivered(lists: Lists, k: usize) -> bool {
+    (lists.word >> (31 - k % 32)) % 2 == 1
 }
 
 // The ends of so many lists, or all where there are fewer.
@@ -57,7 +64,7 @@ pub fn size(ends: &[u32], k: usize) -> usize {
     if from <= to { to - from } else { 0 }
 }
 
-// Whether list k's end neither falls nor passes the row, and the list is not over 65,535.
+// Whether list k's end neither falls nor passes the row, and the list is not over 65,535, or has no number if it was not delivered.
 fn is_sized(lists: Lists, k: usize, row: usize) -> bool {
     let all = lists.ends;
     let ends = stops(&all, lists.count);
@@ -68,7 +75,12 @@ fn is_sized(lists: Lists, k: usize, row: usize) -> bool {
     if row < to {
         return false;
     }
-    size(ends, k) <= 65535
+    size(ends, k) <= most(lists, k)
+}
+
+// How many numbers list k may have.
+fn most(lists: Lists, k: usize) -> usize {
+    if is_delivered(lists, k) { 65535 } else { 0 }
 }
 
 fn are_sized(numbers: &[u32], lists: Lists) -> bool {

@@ -211,7 +211,7 @@ fn place(x: u8) -> usize {
 }
 
 // Of each node in expression order the length of its list, 0 at an operator or where there is no node: what its
-// reader's place can reach. All 0 where the ends (7, 10) or the expression (1 to 5) do not read.
+// reader's place can reach. All 0 where the ends (7, 10) or the expression (1 to 5, 18) do not read.
 pub fn lengths(numbers: &[u32], lists: Lists, packed: &[u8]) -> [u32; 48] {
     let mut found = [0u32; 48];
     if lent::ends_refused(numbers, lists) != 0 {

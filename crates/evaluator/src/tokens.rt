@@ -1,6 +1,7 @@
 // The packed expression as a row of tokens, one byte a node, in expression order: kind times 32, plus the list number
 // (kind 0) or the member count (difference 1, union 2, intersection 3).
 use crate::lent::Lists;
+use crate::lent::is_delivered;
 ghost use Prim.Native.Nat.{_≤_, _<_};
 
 // The tokens read, of which there are count; or the number of the refusal, and then count is 0.
@@ -111,7 +112,24 @@ fn unread(number: u32) -> Node
     }
 }
 
-// The node at a position: 1 if its bits run out, then 4 if there is no such list.
+// The leaf that names a list: 4 if there is no such list, then 18 if it was not delivered.
+fn leaf(list: u64, lists: Lists) -> Node
+    ensures { λ r. ⌜ r .bits ≤ 7 ⌝ }
+{
+    if lists.count as u64 <= list {
+        return unread(4);
+    }
+    if !is_delivered(lists, (list % 32) as usize) {
+        return unread(18);
+    }
+    Node {
+        number: 0,
+        token: (list % 32) as u8,
+        bits: 7,
+    }
+}
+
+// The node at a position: 1 if its bits run out; a list is refused as its leaf is.
 fn node_at(packed: &[u8], at: usize, lists: Lists) -> Node
     requires { ⌜ at ≤ 336 ⌝ }
     ensures { λ r. ⌜ r .bits ≤ 7 ⌝ }
@@ -132,14 +150,7 @@ fn node_at(packed: &[u8], at: usize, lists: Lists) -> Node
             bits: taken,
         };
     }
-    if lists.count as u64 <= read {
-        return unread(4);
-    }
-    Node {
-        number: 0,
-        token: (read % 32) as u8,
-        bits: taken,
-    }
+    leaf(read, lists)
 }
 
 // How many of the first count tokens are operators whose members are not all read. Going from right to left, whole

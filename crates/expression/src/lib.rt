@@ -1,5 +1,5 @@
-// Reading an expression in either stored form, into one byte a node: "At each node: 2, 3, 1, then 4 (in a row also 14).
-// After the last: 5". It is the part that every call on an expression shares: 7 is tested ahead of it, and 6 behind it, by the
+// Reading an expression in either stored form, into one byte a node: "At each node: 2, 3, 1, then 4 (in a row also 14)", and
+// 18. "After the last: 5". It is the part that every call on an expression shares: 7 is tested ahead of it, and 6 behind it, by the
 // call.
 ghost use mathlib.Core.Path.{_≡_};
 ghost use Prim.Native.Nat.{_*_, _^_, _≤_, _<_};
@@ -145,12 +145,25 @@ pub fn wide(b: u8) -> usize
     b as usize
 }
 
+// The test of a list number, of so many lists with this word: 4 where it is not there, 18 where it was not delivered, else 0.
+pub fn test_list(lists: usize, word: u32, k: usize) -> u32
+    ensures { λ r. ⌜ r ≡ number-of (there lists word k) ⌝ }
+{
+    if lists <= k {
+        return 4;
+    }
+    if !fields::word_bit(word, k) {
+        return 18;
+    }
+    0
+}
+
 // The test of a leaf, of any node: the number of its refusal, 0 where there is none.
-fn test_leaf(lists: usize, node: Node) -> u32
-    ensures { λ r. ⌜ r ≡ number-of (named (there lists) node) ⌝ }
+fn test_leaf(lists: usize, word: u32, node: Node) -> u32
+    ensures { λ r. ⌜ r ≡ number-of (named (there lists word) node) ⌝ }
 {
     match node {
-        Node::Leaf(k) => { if wide(k) < lists { 0 } else { 4 } }
+        Node::Leaf(k) => test_list(lists, word, wide(k)),
         Node::Difference => 0,
         Node::Union(_) => 0,
         Node::Intersection(_) => 0,
@@ -204,9 +217,9 @@ fn refused(number: u32) -> Expression
     }
 }
 
-// The expression in the bytes s, in either form, where there are so many lists.
-pub fn read_expression(form: Form, s: &[u8], lists: usize) -> Expression
-    ensures { λ r. ⌜ r ≡ expression-of (read-form form (there lists) (now (s .entry))) ⌝ }
+// The expression in the bytes s, in either form, where there are so many lists, with this word.
+pub fn read_expression(form: Form, s: &[u8], lists: usize, word: u32) -> Expression
+    ensures { λ r. ⌜ r ≡ expression-of (read-form form (there lists word) (now (s .entry))) ⌝ }
 {
     let mut nodes = [0u8; 48];
     // at each open level, how many member nodes are still to come; a list opens a level that has none
@@ -230,7 +243,7 @@ pub fn read_expression(form: Form, s: &[u8], lists: usize) -> Expression
             let Step::Node { node, next } = got else {
                 return refused(number_of(got));
             };
-            let number = test_leaf(lists, node);
+            let number = test_leaf(lists, word, node);
             if number != 0 {
                 return refused(number);
             }

@@ -153,3 +153,17 @@ put-whole s bs k h e l =
     put-is s 0 (bs ++ field k 0) ∙ ap (λ (b : List Bool). bytes (lay (bits s) 0 b)) full
     ∙ ap bytes (ap (λ (j : ℕ). bits (bytes bs) ++ drop j (bits s)) next ∙ ap (λ (b : List Bool). bits (bytes bs) ++ b) (bits-drop n s) ∙ sym (bits-append (bytes bs) (drop n s)))
     ∙ bytes-bits (bytes bs ++ drop n s) (both-small (bytes bs) (drop n s) (bytes-small bs) (drop-small n s h))
+
+-- a field at the start of a row, bits behind it, and zero bits up to a whole byte, put one behind the other
+pub put-filled : (s : List ℕ) (w v : ℕ) (bs : List Bool) (k : ℕ) {a b c : List ℕ} {next : ℕ} → Bytes s → length (bytes (field w v ++ bs)) ≤ length s
+    → a ≡ put-bits s 0 (field w v) → b ≡ put-bits a w bs → next ≡ w + length bs → c ≡ put-bits b next (field k 0) → next + k ≡ 8 * length (bytes (field w v ++ bs))
+    → c ≡ bytes (field w v ++ bs) ++ drop (length (bytes (field w v ++ bs))) s
+put-filled s w v bs k {a} {b} {c} {next} h room ea eb en ec e =
+    let n : List Bool = field w v in
+    let all : List Bool = n ++ bs in
+    let wide : w ≡ 0 + length n = omega (arith, field-length w v) in
+    let long : next ≡ 0 + length all = omega (arith, length-append n bs, field-length w v) in
+    let fits = bytes-length all in
+    ec
+    ∙ ap₂ (λ (row : List ℕ) (p : ℕ). put-bits row p (field k 0)) (eb ∙ ap₂ (λ (row : List ℕ) (p : ℕ). put-bits row p bs) ea wide ∙ put-append s 0 n bs (omega (arith, length-append n bs))) long
+    ∙ put-append s 0 all (field k 0) (omega arith) ∙ put-whole s all k h (omega arith) room

@@ -4,6 +4,7 @@ ghost use mathlib.Core.Path.{_≡_};
 ghost use Prim.Native.Nat.{_+_, _-_, _*_, _/_, _%_, _^_, _≤_, _<_};
 ghost use lib.ListN.{length, take, drop};
 ghost use Rattle.model.specs.Fields.{bits, value, field, only-fill};
+ghost use Rattle.model.specs.Lists.{delivered};
 ghost use Rattle.model.specs.Delivery.{width};
 ghost use Rattle.fields.specs.Positions.{take-at, field-says, put-bits};
 
@@ -73,7 +74,7 @@ fn bytes_at(s: &[u8], first: usize, n: usize) -> u64
 }
 
 // The field of w bits at the bit position at, whose bits are all there.
-fn field_at(s: &[u8], at: usize, w: usize) -> u32
+pub fn field_at(s: &[u8], at: usize, w: usize) -> u32
     requires { ⌜ (w ≤ 32) × (at + w ≤ 8 * length (now s)) ⌝ }
     ensures { λ r. ⌜ r ≡ value (take w (drop at (bits (now (s .entry))))) ⌝ }
 {
@@ -118,6 +119,17 @@ pub fn only_fill(s: &[u8], at: usize) -> bool
         return true;
     }
     field_at(s, at, 8 - off) == 0
+}
+
+// Whether bit k of a word is 1, the most significant one first; it has 32.
+pub fn word_bit(word: u32, k: usize) -> bool
+    ensures { λ r. ⌜ r ≡ delivered word k ⌝ }
+{
+    if 31 < k {
+        return false;
+    }
+    let behind = 31 - k;
+    low_bits(high_bits(word as u64, behind), 1) == 1
 }
 
 // Puts the n bytes of x, the most significant first, from `first` on.

@@ -83,20 +83,20 @@ module _ (form : Tree → List ℕ) (long : Tree → ℕ) (is-long : (t : Tree) 
 
 -- ---- the two calls: 7 first, then the reading
 
-module _ (s : List ℕ) (lists : ℕ) (lent : List ℕ) where
-  pub unpack-wrong : count-holds lists ≡ false → written (written-refused 7) lent ≡ unpack-expression s lists lent
+module _ (s : List ℕ) (lists word : ℕ) (lent : List ℕ) where
+  pub unpack-wrong : count-holds lists ≡ false → written (written-refused 7) lent ≡ unpack-expression s lists word lent
   unfolding unpack-expression sent
   unpack-wrong h = rw h
 
-  pub unpack-on : count-holds lists ≡ true → sends row size lent (read-packed (there lists) s) ≡ unpack-expression s lists lent
+  pub unpack-on : count-holds lists ≡ true → sends row size lent (read-packed (there lists word) s) ≡ unpack-expression s lists word lent
   unfolding unpack-expression
   unpack-on h = rw h
 
-  pub pack-wrong : count-holds lists ≡ false → written (written-refused 7) lent ≡ pack-expression s lists lent
+  pub pack-wrong : count-holds lists ≡ false → written (written-refused 7) lent ≡ pack-expression s lists word lent
   unfolding pack-expression sent
   pack-wrong h = rw h
 
-  pub pack-on : count-holds lists ≡ true → sends packed (λ t. length (packed t)) lent (read-row (there lists) s) ≡ pack-expression s lists lent
+  pub pack-on : count-holds lists ≡ true → sends packed (λ t. length (packed t)) lent (read-row (there lists word) s) ≡ pack-expression s lists word lent
   unfolding pack-expression
   pack-on h = rw h
 

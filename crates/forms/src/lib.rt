@@ -94,13 +94,13 @@ fn put_nodes(s: &mut [u8], row: &[u8])
 }
 
 // A packed expression into its row form, in the lent row; as many elements as there are nodes.
-pub fn unpack_expression(bytes: &[u8], lists: usize, row: &mut [u8]) -> WriteResult
-    ensures { λ r. ⌜ written r (now (row .exit)) ≡ unpack-expression (now (bytes .entry)) lists (now (row .entry)) ⌝ }
+pub fn unpack_expression(bytes: &[u8], lists: usize, word: u32, row: &mut [u8]) -> WriteResult
+    ensures { λ r. ⌜ written r (now (row .exit)) ≡ unpack-expression (now (bytes .entry)) lists word (now (row .entry)) ⌝ }
 {
     if !lists::count_holds(lists) {
         return WriteResult::refused(7);
     }
-    let read = expression::read_expression(Form::Packed, bytes, lists);
+    let read = expression::read_expression(Form::Packed, bytes, lists, word);
     if read.number != 0 {
         return WriteResult::refused(read.number);
     }
@@ -114,13 +114,13 @@ pub fn unpack_expression(bytes: &[u8], lists: usize, row: &mut [u8]) -> WriteRes
 }
 
 // The row form of an expression into its packed form, in the lent bytes; the last byte is filled with zero bits.
-pub fn pack_expression(row: &[u8], lists: usize, bytes: &mut [u8]) -> WriteResult
-    ensures { λ r. ⌜ written r (now (bytes .exit)) ≡ pack-expression (now (row .entry)) lists (now (bytes .entry)) ⌝ }
+pub fn pack_expression(row: &[u8], lists: usize, word: u32, bytes: &mut [u8]) -> WriteResult
+    ensures { λ r. ⌜ written r (now (bytes .exit)) ≡ pack-expression (now (row .entry)) lists word (now (bytes .entry)) ⌝ }
 {
     if !lists::count_holds(lists) {
         return WriteResult::refused(7);
     }
-    let read = expression::read_expression(Form::Row, row, lists);
+    let read = expression::read_expression(Form::Row, row, lists, word);
     if read.number != 0 {
         return WriteResult::refused(read.number);
     }

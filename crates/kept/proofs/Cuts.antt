@@ -10,18 +10,19 @@ use borrow.Author.Tests.{eq-eqb}
 use lib.ListN.{length, getD, take, drop, set, replicate, length-append, replicate-append-replicate, drop-of-length-le, List·getD-map}
 use lib.Seq.{drop-cons}
 use Rattle.model.specs.Outcome.{accepted}
-use Rattle.model.specs.Lists.{top, lists-from, count-holds, lend, lists-of}
+use Rattle.model.specs.Lists.{top, lists-from, count-holds, Lent, lend, lists-of}
 use Rattle.model.specs.Expression.{Tree, size}
 use Rattle.model.specs.Sets.{among, member, all-numbers}
 use Rattle.model.specs.Steps as model
 use Rattle.model.specs.Steps.{says, check-node}
+use Rattle.model.specs.Delivery.{came, word-of}
 use Rattle.model.specs.Calls.{ends-from}
 use Rattle.model.specs.Update.{Change, old-list, new-lists}
 use Rattle.model.specs.RequestOne.{in-or-out}
 use Rattle.model.proofs.Order.{Up}
 use Rattle.model.proofs.Accepted.{lists-accepted}
 use Rattle.model.proofs.Deliveries.{Storable, storable-up}
-use Rattle.model.proofs.Laid.{ends-length, laid-over}
+use Rattle.model.proofs.Laid.{ends-length, laid-came}
 use Rattle.model.proofs.Join.{first-check}
 use Rattle.changes.proofs.Changes.{member-agrees, new-at, new-among}
 use Rattle.fields.specs.Rows.{lay}
@@ -146,17 +147,24 @@ module _ (x : ℕ) where
         let all : 32 ≡ m + (32 - m) = omega (arith, cuts-few ms, counts n count) in
         ap (λ (k : ℕ). replicate k x) all ∙ sym (replicate-append-replicate m (32 - m) x) ∙ ap (λ (l : List ℕ). l ++ replicate (32 - m) x) (sym (cuts-are ms))
 
-    cuts-accepted : lists-of (lend row ends) ≡ accepted (cuts ms)
+    -- lists of which all came
+    lent : Lent
+    lent = lend row ends (word-of (map came (cuts ms)))
+
+    cuts-accepted : lists-of lent ≡ accepted (cuts ms)
+    unfolding lent
     cuts-accepted =
-        ap₂ (λ (r e : List ℕ). lists-of (lend r e)) row-is ends-are
-        ∙ laid-over (cuts ms) _ (ap count-holds (cuts-many ms ∙ many) ∙ count) (cuts-storable ms small)
+        ap₂ (λ (r e : List ℕ). lists-of (lend r e (word-of (map came (cuts ms))))) row-is ends-are
+        ∙ laid-came (cuts ms) _ (ap count-holds (cuts-many ms ∙ many) ∙ count) (cuts-storable ms small)
 
     pub cuts-readable : Readable row ends
-    cuts-readable = readable (lend row ends) (cuts ms) cuts-accepted
+    unfolding lent
+    cuts-readable = readable lent (cuts ms) cuts-accepted
 
     -- it says whether the number is a member of the whole lists
     pub cuts-told : (t : Tree) → size t ≤ 48 → (b : Bool) (rs : model.Readers) → says b rs ≡ check-node (lists-from row 0 ends) t 0 x (record { places = replicate 48 0; moves = 0 }) → b ≡ member ms t x
+    unfolding lent
     cuts-told t fits b rs e =
         first-check (cuts ms) (storable-up (cuts ms) (cuts-storable ms small)) t fits x small b rs 0
-        (e ∙ ap (λ (ls : List (List ℕ)). check-node ls t 0 x (record { places = replicate 48 0; moves = 0 })) (lists-accepted (lend row ends) (cuts ms) cuts-accepted .are))
+        (e ∙ ap (λ (ls : List (List ℕ)). check-node ls t 0 x (record { places = replicate 48 0; moves = 0 })) (lists-accepted lent (cuts ms) cuts-accepted .are))
         ∙ member-agrees (cuts ms) ms x (λ k. ap (among x) (cuts-at ms k) ∙ cut-among (getD ms k [])) t

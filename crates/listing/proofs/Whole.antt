@@ -1,13 +1,13 @@
 -- The work of `members` whole: its tests one after another, and behind them a page that holds every member. Assumes nothing.
 use mathlib.Core.Path.{_≡_, refl, sym, ap, ap₂, _∙_}
 use mathlib.Core.Bool.{Bool, true}
-use mathlib.Core.List.{List, [], _∷_}
+use mathlib.Core.List.{List, [], _∷_, map}
 use Prim.Native.Nat.{ℕ, suc, _+_, _-_, _≤_, _<_}
 use native.Mathlib.Nat.{zero-add}
 use native.Mathlib.Numerals.{add-one}
 use native.Mathlib.Omega.{arith}
 use borrow.Author.Tests.{le-leb, lt-leb, lt-ltb}
-use lib.ListN.{length, getD, take, drop, replicate, length-take, length-drop}
+use lib.ListN.{length, getD, take, drop, replicate, length-take, length-drop, length-map}
 use lib.Seq.{take-all}
 use Rattle.model.specs.declared.DecodeResult.{DecodeResult}
 use Rattle.model.specs.declared.Reply.{Reply}
@@ -18,13 +18,13 @@ use Rattle.model.specs.Sets.{all-numbers, members}
 use Rattle.model.specs.Machine.{next}
 use Rattle.model.specs.Run.{State, steps, starting, begin, run}
 use Rattle.model.specs.Forms.{there, read-packed}
-use Rattle.model.specs.Delivery.{read-delivery}
-use Rattle.model.specs.Calls.{counted, counted-refused, delivered, ends-from, decode-delivery}
+use Rattle.model.specs.Delivery.{Supplied, supplied-numbers, read-delivery, word-of}
+use Rattle.model.specs.Calls.{counted, counted-refused, decoded, ends-from, laid-out, decode-delivery}
 use Rattle.model.specs.Program.{halves, listing-of, listing, listed, list-members}
 use Rattle.model.proofs.Accepted.{lists-accepted}
 use Rattle.model.proofs.Denoted.{members-up, members-few, from-all}
 use Rattle.model.proofs.Deliveries.{delivery-holds}
-use Rattle.model.proofs.Laid.{ends-length, lists-length, laid-over}
+use Rattle.model.proofs.Laid.{ends-length, lists-length, laid-supplied}
 use Rattle.model.proofs.RoundTrips.{read-sends, lists-there}
 use Rattle.fields.specs.Rows.{lay}
 use Rattle.lists.proofs.Spans.{counts, readable, readable-up}
@@ -47,23 +47,23 @@ pub record All-drawn (ls : List (List ℕ)) (t : Tree) (r : Page) (row : List �
   pub holds : take (r .count) row ≡ members ls t
   pub inside : r .count ≤ length row
 
-module _ (numbers ends packed lent : List ℕ) where
+module _ (numbers ends : List ℕ) (word : ℕ) (packed lent : List ℕ) where
   abbrev ls : List (List ℕ)
   ls = lists-from numbers 0 ends
 
-  pub over-refuses : (n : ℕ) → read-packed (there (length ends)) packed ≡ refused n → counted (counted-refused n) lent ≡ list-over ls packed lent
+  pub over-refuses : (n : ℕ) → read-packed (there (length ends) word) packed ≡ refused n → counted (counted-refused n) lent ≡ list-over word ls packed lent
   unfolding list-over sent
   over-refuses n e = rw (lists-length numbers 0 ends, e)
 
-  module _ (t : Tree) (f : read-packed (there (length ends)) packed ≡ accepted t) where
+  module _ (t : Tree) (f : read-packed (there (length ends) word) packed ≡ accepted t) where
     abbrev ms : List ℕ
     ms = members ls t
 
-    pub over-short : length lent < length ms → counted (counted-refused 6) lent ≡ list-over ls packed lent
+    pub over-short : length lent < length ms → counted (counted-refused 6) lent ≡ list-over word ls packed lent
     unfolding list-over sent listed listing-of
     over-short h = rw (lists-length numbers 0 ends, f, lt-leb (length ms) (length lent) h)
 
-    pub over-lists : length ms ≤ length lent → counted (record { number = 0; count = length ms; moves = moves-of ls t }) (lay lent 0 ms) ≡ list-over ls packed lent
+    pub over-lists : length ms ≤ length lent → counted (record { number = 0; count = length ms; moves = moves-of ls t }) (lay lent 0 ms) ≡ list-over word ls packed lent
     unfolding list-over sent listed listing-of over lay
     over-lists h = rw (lists-length numbers 0 ends, f, le-leb (length ms) (length lent) h, zero-add (length ms))
 
@@ -135,10 +135,13 @@ module _ (input lent : List ℕ) where
         refuses-delivery n f = rw (le-leb (length input) 65535 small, halves-are input end some e fits, f)
 
         -- behind the delivery
-        pub goes-over : (ls : List (List ℕ)) → read-delivery 4096 32 (second-part input end) ≡ accepted ls → list-over ls (first-part input end) lent ≡ list-members input lent
+        pub goes-over : (ss : List Supplied) → read-delivery 4096 32 (second-part input end) ≡ accepted ss → list-over (word-of ss) (map supplied-numbers ss) (first-part input end) lent ≡ list-members input lent
         unfolding list-members listing list-over
-        goes-over ls f = rw (le-leb (length input) 65535 small, halves-are input end some e fits, f) (go (read-packed (there (length ls)) (first-part input end)))
+        goes-over ss f = rw (le-leb (length input) 65535 small, halves-are input end some e fits, f, ends-length 0 ls) (go (read-packed (there (length ls) (word-of ss)) (first-part input end)))
           where
+            ls : List (List ℕ)
+            ls = map supplied-numbers ss
+
             go : (o : Outcome Tree) → sent 2 (lent ∷ []) (o >>= λ t. listed lent (listing-of ls t)) ≡ sent 2 (lent ∷ []) ((o >>= λ t. accepted (listing-of ls t)) >>= listed lent)
             go (refused n) = refl
             go (accepted t) = refl
@@ -146,37 +149,40 @@ module _ (input lent : List ℕ) where
 -- ---- the delivery, read into 4,096 numbers and 32 ends
 
 -- the lists stand in the rows
-pub record Laid-lists (r : DecodeResult) (row stops : List ℕ) (ls : List (List ℕ)) : Type 0 where
+pub record Laid-lists (r : DecodeResult) (row stops : List ℕ) (ss : List Supplied) : Type 0 where
   pub inside : r .lists ≤ length stops
-  pub lists-are : lists-from row 0 (take (r .lists) stops) ≡ ls
+  pub word-is : r .word ≡ word-of ss
+  pub lists-are : lists-from row 0 (take (r .lists) stops) ≡ map supplied-numbers ss
   pub delivered-lists : Delivered-lists row (take (r .lists) stops)
 
-module _ (bytes numbers ends : List ℕ) (long : length numbers ≡ 4096) (many : length ends ≡ 32) (r : DecodeResult) (row stops : List ℕ) (e : delivered r row stops ≡ decode-delivery bytes numbers ends) where
+module _ (bytes numbers ends : List ℕ) (long : length numbers ≡ 4096) (many : length ends ≡ 32) (r : DecodeResult) (row stops : List ℕ) (e : decoded r row stops ≡ decode-delivery bytes numbers ends) where
   -- the number that was handed back
   pub delivered-number : r .number ≡ number-of (read-delivery 4096 32 bytes)
   unfolding decode-delivery sent number-of
-  delivered-number = ap (λ (s : Sent). s .number) e ∙ ap₂ (λ (n m : ℕ). sent 2 (numbers ∷ ends ∷ []) (read-delivery n m bytes >>= whole) .number) long many ∙ go (read-delivery 4096 32 bytes)
+  delivered-number = ap (λ (s : Sent). s .number) e ∙ ap₂ (λ (n m : ℕ). sent 3 (numbers ∷ ends ∷ []) (read-delivery n m bytes >>= whole) .number) long many ∙ go (read-delivery 4096 32 bytes)
     where
-      whole : List (List ℕ) → Outcome Success
-      whole ls = accepted (record { parts = length ls ∷ length (all-numbers ls) ∷ []; written = all-numbers ls ∷ ends-from 0 ls ∷ [] })
+      whole : List Supplied → Outcome Success
+      whole ss = let l = laid-out ss in accepted (record { parts = l .word ∷ length ss ∷ length (l .numbers) ∷ []; written = l .numbers ∷ l .ends ∷ [] })
 
-      go : (o : Outcome (List (List ℕ))) → sent 2 (numbers ∷ ends ∷ []) (o >>= whole) .number ≡ number-of o
+      go : (o : Outcome (List Supplied)) → sent 3 (numbers ∷ ends ∷ []) (o >>= whole) .number ≡ number-of o
       go (refused n) = refl
-      go (accepted ls) = refl
+      go (accepted ss) = refl
 
   -- and the lists
-  pub lists-laid : (ls : List (List ℕ)) → read-delivery 4096 32 bytes ≡ accepted ls → Laid-lists r row stops ls
-  lists-laid ls f =
-      let read : read-delivery (length numbers) (length ends) bytes ≡ accepted ls = ap₂ (λ (n m : ℕ). read-delivery n m bytes) long many ∙ f in
-      let whole = e ∙ read-sends bytes numbers ends ls read in
-      let holds = delivery-holds 4096 32 bytes ls f in
-      let count : r .lists ≡ length ls = ap (λ (s : Sent). getD (s .parts) 0 0) whole in
-      let stops-are : take (r .lists) stops ≡ ends-from 0 ls = ap₂ (λ (n : ℕ) (s : Sent). take n (getD (s .rows) 1 [])) count whole ∙ lists-there ends ls in
-      let is : lists-of (lend row (take (r .lists) stops)) ≡ accepted ls =
-      ap₂ (λ (s : Sent) (k : List ℕ). lists-of (lend (getD (s .rows) 0 []) k)) whole stops-are ∙ laid-over ls (drop (length (all-numbers ls)) numbers) (holds .count) (holds .storable) in
-      let are : lists-from row 0 (take (r .lists) stops) ≡ ls = lists-accepted (lend row (take (r .lists) stops)) ls is .are in
+  pub lists-laid : (ss : List Supplied) → read-delivery 4096 32 bytes ≡ accepted ss → Laid-lists r row stops ss
+  lists-laid ss f =
+      let ls : List (List ℕ) = map supplied-numbers ss in
+      let read : read-delivery (length numbers) (length ends) bytes ≡ accepted ss = ap₂ (λ (n m : ℕ). read-delivery n m bytes) long many ∙ f in
+      let whole = e ∙ read-sends bytes numbers ends ss read in
+      let holds = delivery-holds 4096 32 bytes ss f in
+      let count : r .lists ≡ length ss = ap (λ (s : Sent). getD (s .parts) 1 0) whole in
+      let stops-are : take (r .lists) stops ≡ ends-from 0 ls = ap₂ (λ (n : ℕ) (s : Sent). take n (getD (s .rows) 1 [])) count whole ∙ lists-there (length ss) ends ls (sym (length-map ss supplied-numbers)) in
+      let is : lists-of (lend row (take (r .lists) stops) (word-of ss)) ≡ accepted ls =
+      ap₂ (λ (s : Sent) (k : List ℕ). lists-of (lend (getD (s .rows) 0 []) k (word-of ss))) whole stops-are ∙ laid-supplied ss (drop (length (all-numbers ls)) numbers) (holds .count) (holds .storable) in
+      let are : lists-from row 0 (take (r .lists) stops) ≡ ls = lists-accepted (lend row (take (r .lists) stops) (word-of ss)) ls is .are in
       record {
-        inside = omega (arith, length-take (r .lists) stops, ap (λ (l : List ℕ). length l) stops-are, ends-length 0 ls);
+        word-is = ap (λ (s : Sent). getD (s .parts) 0 0) whole;
+        inside = omega (arith, length-take (r .lists) stops, ap (λ (l : List ℕ). length l) stops-are, ends-length 0 ls, length-map ss supplied-numbers);
         lists-are = are;
         delivered-lists = record { lists = readable _ ls is; many = counts _ (lists-accepted _ ls is .count) .1; few = rw are (holds .numbers) };
       }

@@ -15,8 +15,8 @@ pub record Delivered-lists (numbers ends : List ℕ) : Type 0 where
   pub many : length ends ≤ 32
   pub few : length (all-numbers (lists-from numbers 0 ends)) ≤ 4096
 
--- "then the expression"; then its members into the lent row
-unfoldable pub list-over : List (List ℕ) → List ℕ → List ℕ → Sent
-list-over ls packed lent = sent 2 (lent ∷ []) (do
-  t ← read-packed (there (length ls)) packed
+-- "then the expression", over these lists with this word; then its members into the lent row
+unfoldable pub list-over : ℕ → List (List ℕ) → List ℕ → List ℕ → Sent
+list-over word ls packed lent = sent 2 (lent ∷ []) (do
+  t ← read-packed (there (length ls) word) packed
   listed lent (listing-of ls t))

@@ -31,13 +31,14 @@ fn copy_out(lent: &mut [u32], from: &[u32])
 fn list_delivered(
     numbers: &[u32],
     ends: &[u32],
+    word: u32,
     packed: &[u8],
     members: &mut [u32],
 ) -> MembersResult
     requires { ⌜ Delivered-lists (now numbers) (now ends) ⌝ }
-    ensures { λ r. ⌜ counted r (now (members .exit)) ≡ list-over (lists-from (now (numbers .entry)) 0 (now (ends .entry))) (now (packed .entry)) (now (members .entry)) ⌝ }
+    ensures { λ r. ⌜ counted r (now (members .exit)) ≡ list-over word (lists-from (now (numbers .entry)) 0 (now (ends .entry))) (now (packed .entry)) (now (members .entry)) ⌝ }
 {
-    let read = expression::read_expression(Form::Packed, packed, ends.len());
+    let read = expression::read_expression(Form::Packed, packed, ends.len(), word);
     if read.number != 0 {
         return MembersResult::refused(read.number);
     }
@@ -85,5 +86,5 @@ pub fn list_members(input: &[u8], members: &mut [u32]) -> MembersResult
         return MembersResult::refused(got.number);
     }
     let lists = got.lists;
-    list_delivered(&numbers, &ends[..lists], &input[1..end], members)
+    list_delivered(&numbers, &ends[..lists], got.word, &input[1..end], members)
 }

@@ -1,12 +1,13 @@
 -- Ends from place i on: 10 and 11 by one end and by those behind it. Assumes nothing.
 use mathlib.Core.Path.{_≡_}
-use mathlib.Core.Bool.{true, false}
+use mathlib.Core.Bool.{true, false, _||_}
 use mathlib.Core.List.{List}
 use Prim.Native.Nat.{ℕ, _+_, _-_, _≤_, _<_}
 use borrow.Author.Tests.{le-leb, lt-leb, leb-true}
-use lib.Dec.{leb}
+use lib.Dec.{leb, eqb}
+use native.Mathlib.Numerals.{add-one}
 use lib.ListN.{length, getD, drop, drop-of-length-le}
-use Rattle.model.specs.Lists.{ascending, all-ascending, part, lists-from, ends-hold}
+use Rattle.model.specs.Lists.{ascending, all-ascending, part, lists-from, ends-hold, delivered, word-holds}
 use Rattle.model.proofs.Order.{and-true}
 use Rattle.lists.proofs.Left.{left-cons}
 
@@ -47,6 +48,20 @@ module _ (size start : ℕ) (ends : List ℕ) (i : ℕ) where
       let b = and-true (leb stop size) _ (a .1) in
       let c = and-true (leb (stop - start) 65535) _ (b .1) in
       record { order = leb-true start stop (a .0); inside = leb-true stop size (b .0); few = leb-true (stop - start) 65535 (c .0); rest = c .1 }
+
+-- 10 for the word, from list i on
+module _ (word start : ℕ) (ends : List ℕ) (i : ℕ) where
+  pub word-falls : i < length ends → (delivered word i || eqb start (getD ends i 0)) ≡ false → word-holds word i start (drop i ends) ≡ false
+  unfolding word-holds
+  word-falls h f = rw (left-cons ends i h, f)
+
+  pub word-more : i < length ends → (delivered word i || eqb start (getD ends i 0)) ≡ true → word-holds word i start (drop i ends) ≡ word-holds word (i + 1) (getD ends i 0) (drop (i + 1) ends)
+  unfolding word-holds
+  word-more h a = rw (left-cons ends i h, a, add-one)
+
+  pub word-end : length ends ≤ i → word-holds word i start (drop i ends) ≡ true
+  unfolding word-holds
+  word-end h = rw (drop-of-length-le ends h)
 
 module _ (numbers : List ℕ) (start : ℕ) (ends : List ℕ) (i : ℕ) where
   pub lists-fall : i < length ends → ascending (part numbers start (getD ends i 0)) ≡ false → all-ascending (lists-from numbers start (drop i ends)) ≡ false

@@ -1,13 +1,15 @@
-// Lists lent as one row of numbers and one end for each: whether 7, 10 or 11 refuses them, and the part of one list.
+// Lists lent as one row of numbers, one end for each and a word that says which of them came: whether 7, 10 or 11 refuses
+// them, and the part of one list.
 
 ghost use mathlib.Core.Path.{_≡_};
-ghost use mathlib.Core.Bool.{true};
+ghost use mathlib.Core.Bool.{true, _&&_, _||_};
 ghost use mathlib.Core.List.{_∷_};
 ghost use Prim.Native.Nat.{_≤_};
+ghost use lib.Dec.{eqb};
 ghost use denote.Ref.{ptr};
 ghost use lib.ListN.{length, getD};
 ghost use Rattle.model.specs.Outcome.{number-of};
-ghost use Rattle.model.specs.Lists.{ascending, all-ascending, lists-from, count-holds, ends-hold, lend, lists-of, span-of, part-of};
+ghost use Rattle.model.specs.Lists.{ascending, all-ascending, lists-from, count-holds, ends-hold, delivered, word-holds, lend, lists-of, span-of, part-of};
 ghost use Rattle.lists.specs.Rise.{rise, rise-says};
 ghost use Rattle.lists.specs.Place.{element-at};
 ghost use Rattle.lists.specs.Span.{span-says};
@@ -84,8 +86,8 @@ pub fn count_holds(lists: usize) -> bool
     lists <= 32
 }
 
-// 10 does not apply, with a row of so many numbers.
-pub fn ends_hold(size: usize, ends: &[u32]) -> bool
+// 10 does not apply for the ends, with a row of so many numbers.
+fn ends_hold(size: usize, ends: &[u32]) -> bool
     ensures { λ r. ⌜ r ≡ ends-hold size 0 (now (ends .entry)) ⌝ }
 {
     let mut start: usize = 0;
@@ -107,6 +109,43 @@ pub fn ends_hold(size: usize, ends: &[u32]) -> bool
     true
 }
 
+// Whether a list from start to stop agrees with the word: delivered, or empty.
+fn agrees(word: u32, k: usize, start: u32, stop: u32) -> bool
+    ensures { λ r. ⌜ r ≡ (delivered word k || eqb start stop) ⌝ }
+{
+    if fields::word_bit(word, k) {
+        return true;
+    }
+    start == stop
+}
+
+// Nor does it for the word: no undelivered list starts and ends apart.
+fn word_holds(ends: &[u32], word: u32) -> bool
+    ensures { λ r. ⌜ r ≡ word-holds word 0 0 (now (ends .entry)) ⌝ }
+{
+    let mut start: u32 = 0;
+    let mut i: usize = 0;
+    while i < ends.len() {
+        let stop = ends[i];
+        if !agrees(word, i, start, stop) {
+            return false;
+        }
+        start = stop;
+        i += 1;
+    }
+    true
+}
+
+// 10 does not apply.
+pub fn lists_hold(size: usize, ends: &[u32], word: u32) -> bool
+    ensures { λ r. ⌜ r ≡ (ends-hold size 0 (now (ends .entry)) && word-holds word 0 0 (now (ends .entry))) ⌝ }
+{
+    if !ends_hold(size, ends) {
+        return false;
+    }
+    word_holds(ends, word)
+}
+
 // 11 does not apply, where 10 does not.
 fn all_ascending(numbers: &[u32], ends: &[u32]) -> bool
     requires { ⌜ ends-hold (length (now numbers)) 0 (now ends) ≡ true ⌝ }
@@ -126,13 +165,13 @@ fn all_ascending(numbers: &[u32], ends: &[u32]) -> bool
 }
 
 // The first of 7, 10 and 11 that refuses the lists, or 0.
-pub fn test_lists(numbers: &[u32], ends: &[u32]) -> u32
-    ensures { λ r. ⌜ r ≡ number-of (lists-of (lend (now (numbers .entry)) (now (ends .entry)))) ⌝ }
+pub fn test_lists(numbers: &[u32], ends: &[u32], word: u32) -> u32
+    ensures { λ r. ⌜ r ≡ number-of (lists-of (lend (now (numbers .entry)) (now (ends .entry)) word)) ⌝ }
 {
     if !count_holds(ends.len()) {
         return 7;
     }
-    if !ends_hold(numbers.len(), ends) {
+    if !lists_hold(numbers.len(), ends, word) {
         return 10;
     }
     if !all_ascending(numbers, ends) {
@@ -153,10 +192,10 @@ pub fn start_of(ends: &[u32], k: usize) -> usize
 }
 
 // Where list k's part stands; the empty part at the start where 7, 10 or 11 would apply or there is no list k.
-pub fn list_span(numbers: &[u32], ends: &[u32], k: usize) -> Span
-    ensures { λ r. ⌜ span-says r ≡ span-of (lend (now (numbers .entry)) (now (ends .entry))) k ⌝ }
+pub fn list_span(numbers: &[u32], ends: &[u32], word: u32, k: usize) -> Span
+    ensures { λ r. ⌜ span-says r ≡ span-of (lend (now (numbers .entry)) (now (ends .entry)) word) k ⌝ }
 {
-    if test_lists(numbers, ends) != 0 {
+    if test_lists(numbers, ends, word) != 0 {
         return Span { start: 0, size: 0 };
     }
     if ends.len() <= k {
@@ -164,18 +203,16 @@ pub fn list_span(numbers: &[u32], ends: &[u32], k: usize) -> Span
     }
     let start = start_of(ends, k);
     let stop = wide(ends[k]);
-    Span {
-        start,
-        size: stop - start,
-    }
+    let size = stop - start;
+    Span { start, size }
 }
 
 // List k's part of the lent numbers itself: its numbers, and where it points.
-pub fn list_part<'a>(numbers: &'a [u32], ends: &[u32], k: usize) -> &'a [u32]
-    ensures part { λ r. ⌜ now r ≡ part-of (lend (now (numbers .entry)) (now (ends .entry))) k ⌝ }
-    ensures place { λ r. ⌜ ptr r ≡ element-at (ptr (numbers .entry)) (span-of (lend (now (numbers .entry)) (now (ends .entry))) k .start) ⌝ }
+pub fn list_part<'a>(numbers: &'a [u32], ends: &[u32], word: u32, k: usize) -> &'a [u32]
+    ensures part { λ r. ⌜ now r ≡ part-of (lend (now (numbers .entry)) (now (ends .entry)) word) k ⌝ }
+    ensures place { λ r. ⌜ ptr r ≡ element-at (ptr (numbers .entry)) (span-of (lend (now (numbers .entry)) (now (ends .entry)) word) k .start) ⌝ }
 {
-    let span = list_span(numbers, ends, k);
+    let span = list_span(numbers, ends, word, k);
     let from = span.start;
     let to = from + span.size;
     &numbers[from..to]

@@ -12,7 +12,7 @@ use lib.Seq.{getD-take, getD-drop}
 use Rattle.model.specs.declared.Node.{Node}
 use Rattle.model.specs.declared.Node.the-variants.{Leaf, Difference, Union, Intersection}
 use Rattle.model.specs.Outcome.{Outcome, refused, accepted, _>>=_, _>>_, require}
-use Rattle.model.specs.Lists.{top, Numbers, rises, ascending, all-ascending, part, lists-from, Lent, lists-of, count-holds, ends-hold}
+use Rattle.model.specs.Lists.{top, Numbers, rises, ascending, all-ascending, part, lists-from, Lent, lists-of, count-holds, ends-hold, delivered, word-holds}
 use Rattle.model.specs.Expression.{Tree, leaf, difference, union, intersection, Members, one, more, size, sizes, depth, depths, count}
 use Rattle.model.specs.Fields.{value, take-field, bits, only-fill}
 use Rattle.model.specs.Forms.{node-of, take-byte, take-rest, take-kind, take-node, Leaf-test, there, read-members, operator, read-below, read-tree, read-row, read-packed}
@@ -83,6 +83,7 @@ lists-up numbers start (stop ∷ ends) n h (suc k) =
 pub record Accepted-lists (l : Lent) (ls : List (List ℕ)) : Type 0 where
   pub count : count-holds (length (l .ends)) ≡ true
   pub hold : ends-hold (length (l .numbers)) 0 (l .ends) ≡ true
+  pub told : word-holds (l .word) 0 0 (l .ends) ≡ true
   pub rise : all-ascending (lists-from (l .numbers) 0 (l .ends)) ≡ true
   pub are : lists-from (l .numbers) 0 (l .ends) ≡ ls
 
@@ -90,9 +91,10 @@ pub lists-accepted : (l : Lent) (ls : List (List ℕ)) → lists-of l ≡ accept
 unfolding lists-of
 lists-accepted l ls h =
     let a = required 7 (count-holds (length (l .ends))) _ ls h in
-    let b = required 10 (ends-hold (length (l .numbers)) 0 (l .ends)) _ ls (a .1) in
+    let b = required 10 (ends-hold (length (l .numbers)) 0 (l .ends) && word-holds (l .word) 0 0 (l .ends)) _ ls (a .1) in
+    let h₁₀ = and-true (ends-hold (length (l .numbers)) 0 (l .ends)) (word-holds (l .word) 0 0 (l .ends)) (b .0) in
     let c = required 11 (all-ascending (lists-from (l .numbers) 0 (l .ends))) _ ls (b .1) in
-    record { count = a .0; hold = b .0; rise = c .0; are = cc (c .1) }
+    record { count = a .0; hold = h₁₀ .0; told = h₁₀ .1; rise = c .0; are = cc (c .1) }
 
 pub accepted-up : (l : Lent) (ls : List (List ℕ)) → Numbers (l .numbers) → lists-of l ≡ accepted ls → (k : ℕ) → Up 0 (getD ls k [])
 accepted-up l ls n h k = let a = lists-accepted l ls h in rw (a .are) at (lists-up (l .numbers) 0 (l .ends) n (a .rise) k)
@@ -104,16 +106,21 @@ abbrev pub Narrow : Leaf-test → Type 0
 Narrow test = (k : ℕ) → test k ≡ accepted tt → k < 32
 
 -- the list numbers that are there
-pub there-is : (lists k : ℕ) → there lists k ≡ accepted tt → k < lists
+pub there-is : (lists word k : ℕ) → there lists word k ≡ accepted tt → k < lists
 unfolding there
-there-is lists k h = ltb-true k lists (held 4 (ltb k lists) h)
+there-is lists word k h = ltb-true k lists (required 4 (ltb k lists) _ tt h .0)
 
-pub is-there : (lists k : ℕ) → k < lists → there lists k ≡ accepted tt
+-- and of lists that were delivered
+pub there-came : (lists word k : ℕ) → there lists word k ≡ accepted tt → delivered word k ≡ true
 unfolding there
-is-there lists k h = rw (lt-ltb k lists h)
+there-came lists word k h = held 18 (delivered word k) (required 4 (ltb k lists) _ tt h .1)
 
-pub there-narrow : (lists : ℕ) → lists ≤ 32 → Narrow (there lists)
-there-narrow lists few k h = omega (arith, there-is lists k h)
+pub is-there : (lists word k : ℕ) → k < lists → delivered word k ≡ true → there lists word k ≡ accepted tt
+unfolding there
+is-there lists word k h d = rw (lt-ltb k lists h, d)
+
+pub there-narrow : (lists word : ℕ) → lists ≤ 32 → Narrow (there lists word)
+there-narrow lists word few k h = omega (arith, there-is lists word k h)
 
 -- a tree that reads with so much depth left and so many nodes done: then so many are done
 record Read (test : Leaf-test) (d done : ℕ) (t : Tree) (after : ℕ) : Type 0 where

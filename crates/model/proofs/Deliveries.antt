@@ -1,22 +1,22 @@
 -- Deliveries: one that reads holds list sets, its width is the least, what is written from lists reads back as those
 -- lists, and bytes that read are written back the same; what reads with some room, or none lent, reads with any that
--- holds it. All this in every form whose heads read back, and so in this paper's. Assumes nothing.
+-- holds it. All this in every form whose heads read back, and so in 01's and in Two's. Assumes nothing.
 use mathlib.Core.Path.{_≡_, refl, sym, ap, ap₂, _∙_, subst}
 use mathlib.Core.Bool.{Bool, true, false}
-use mathlib.Core.List.{List, [], _∷_, _++_, append-assoc, flatMap}
+use mathlib.Core.List.{List, [], _∷_, _++_, append-assoc, map, flatMap}
 use mathlib.Core.Option.{Option, none, some, Option·map}
 use Prim.Native.Nat.{ℕ, zero, suc, _+_, _-_, _^_, _≤_, _<_}
 use native.Mathlib.Omega.{arith}
 use native.Mathlib.Nat.{add-zero}
 use lib.Dec.{ltb, leb, eqb}
 use borrow.Author.Tests.{ltb-true, ltb-false, lt-ltb, leb-true, le-leb, eqb-true, eq-eqb}
-use lib.ListN.{getD, length, replicate, length-append}
+use lib.ListN.{getD, length, replicate, length-append, length-map}
 use Rattle.model.specs.Outcome.{accepted}
 use Rattle.model.specs.Lists.{top, count-holds}
 use Rattle.model.specs.Sets.{all-numbers}
 use Rattle.model.specs.Fields.{Bytes, field, bits, take-field, only-fill}
-use Rattle.model.specs.Delivery.{largest-gap, width-from, width, gap-bits, body-bits, Form, by-count, list-bits, delivery-in, read-gaps, read-body, read-list, read-lists, read-in, delivery, read-delivery, read-stored}
-use Rattle.model.proofs.Order.{and-true, split, Up}
+use Rattle.model.specs.Delivery.{largest-gap, width-from, width, gap-bits, body-bits, Form, by-count, list-bits, delivery-in, read-gaps, read-body, read-list, read-lists, read-in, Supplied, undelivered, came, supplied-numbers, is-delivered, all-delivered, bit-and-count, take-count, by-bit, read-stored, delivery, read-delivery, old-delivery}
+use Rattle.model.proofs.Order.{and-true, not-both, split, Up}
 use Rattle.model.proofs.Accepted.{accepted-same, bound, required, field-lt}
 use Rattle.model.proofs.Bits.{taken, was-field, filled, fill-only, bytes-are}
 
@@ -242,18 +242,18 @@ module _ {A : Type 0} (form : Form A) (heads : Reads-back form) where
   -- ---- what reads was written, and holds list sets
 
   -- a list, its bits, and what it holds
-  record List-read (room : Option ℕ) (bs : List Bool) (r : A × List Bool) : Type 0 where
-    are : bs ≡ list-bits form (r .0) ++ r .1
-    up : Up 0 (form .numbers-of (r .0))
-    few : length (form .numbers-of (r .0)) ≤ 65535
-    fit : fits (length (form .numbers-of (r .0))) room ≡ true
+  pub record List-read (room : Option ℕ) (bs : List Bool) (r : A × List Bool) : Type 0 where
+    pub are : bs ≡ list-bits form (r .0) ++ r .1
+    pub up : Up 0 (form .numbers-of (r .0))
+    pub few : length (form .numbers-of (r .0)) ≤ 65535
+    pub fit : fits (length (form .numbers-of (r .0))) room ≡ true
 
   list-are : (a : A) (xs : List ℕ) (bs behind rest : List Bool) → bs ≡ form .head-bits a ++ behind → behind ≡ body-bits xs ++ rest → form .numbers-of a ≡ xs → bs ≡ list-bits form a ++ rest
   unfolding list-bits
   list-are a xs bs behind rest h b n =
       h ∙ ap (λ (l : List Bool). form .head-bits a ++ l) (b ∙ ap (λ (l : List ℕ). body-bits l ++ rest) (sym n)) ∙ sym (append-assoc (form .head-bits a) (body-bits (form .numbers-of a)) rest)
 
-  list-was : (room : Option ℕ) (bs : List Bool) (r : A × List Bool) → read-list take-field form room bs ≡ accepted r → List-read room bs r
+  pub list-was : (room : Option ℕ) (bs : List Bool) (r : A × List Bool) → read-list take-field form room bs ≡ accepted r → List-read room bs r
   unfolding read-list
   list-was room bs r e =
       let a = bound (form .take-head take-field bs) _ r e in
@@ -273,13 +273,13 @@ module _ {A : Type 0} (form : Form A) (heads : Reads-back form) where
         fit = rw (n, y .many) (b .0);
       })
 
-  record Lists-read (n : ℕ) (room : Option ℕ) (bs : List Bool) (r : List A × List Bool) : Type 0 where
-    are : bs ≡ flatMap (list-bits form) (r .0) ++ r .1
-    many : length (r .0) ≡ n
-    storable : All-storable form (r .0)
-    fit : fits (total form (r .0)) room ≡ true
+  pub record Lists-read (n : ℕ) (room : Option ℕ) (bs : List Bool) (r : List A × List Bool) : Type 0 where
+    pub are : bs ≡ flatMap (list-bits form) (r .0) ++ r .1
+    pub many : length (r .0) ≡ n
+    pub storable : All-storable form (r .0)
+    pub fit : fits (total form (r .0)) room ≡ true
 
-  lists-was : (n : ℕ) (room : Option ℕ) (bs : List Bool) (r : List A × List Bool) → read-lists take-field form n room bs ≡ accepted r → Lists-read n room bs r
+  pub lists-was : (n : ℕ) (room : Option ℕ) (bs : List Bool) (r : List A × List Bool) → read-lists take-field form n room bs ≡ accepted r → Lists-read n room bs r
   unfolding read-lists flatMap total
   lists-was zero room bs r e = subst (Lists-read 0 room bs) (accepted-same e) (record { are = refl; many = refl; storable = tt; fit = nothing-fits room })
   lists-was (suc n) room bs r e =
@@ -380,9 +380,9 @@ module _ {A : Type 0} (form : Form A) (heads : Reads-back form) where
       let r = reads numbers-room ends-room bs ls e in
       back numbers-room′ ends-room′ bs ls (record { fill = r .fill; are = r .are; only = r .only; held = record { count = r .held .count; storable = r .held .storable; numbers = h₁; ends = h₂ } })
 
--- ---- this paper's form
+-- ---- lists as they are lent, and as they are supplied
 
--- lists that its delivery can hold
+-- lists that a delivery can hold
 abbrev pub Storable : List (List ℕ) → Type 0
 Storable ls = All-storable by-count ls
 
@@ -391,48 +391,133 @@ storable-up [] s k = tt
 storable-up (l ∷ ls) s zero = s .0 .0
 storable-up (l ∷ ls) s (suc k) = storable-up ls (s .1) k
 
+-- the same, of what was supplied
+supplied-storable : (ss : List Supplied) → Storable (map supplied-numbers ss) → All-storable by-bit ss
+supplied-storable [] s = tt
+supplied-storable (a ∷ ss) s = (s .0, supplied-storable ss (s .1))
+
+storable-supplied : (ss : List Supplied) → All-storable by-bit ss → Storable (map supplied-numbers ss)
+storable-supplied [] s = tt
+storable-supplied (a ∷ ss) s = (s .0, storable-supplied ss (s .1))
+
 total-is : (ls : List (List ℕ)) → total by-count ls ≡ length (all-numbers ls)
 unfolding total all-numbers
 total-is [] = refl
 total-is (l ∷ ls) = omega (arith, length-append l (all-numbers ls), total-is ls)
 
--- bytes that read are written back the same
-pub delivery-same : (numbers-room ends-room : ℕ) (bs : List ℕ) (ls : List (List ℕ)) → Bytes bs → read-delivery numbers-room ends-room bs ≡ accepted ls → delivery ls ≡ bs
-unfolding read-delivery delivery
-delivery-same numbers-room ends-room bs ls h e = form-same by-count by-count-reads-back (some numbers-room) (some ends-room) bs ls h e
+total-supplied : (ss : List Supplied) → total by-bit ss ≡ length (all-numbers (map supplied-numbers ss))
+unfolding total all-numbers
+total-supplied [] = refl
+total-supplied (a ∷ ss) = omega (arith, length-append (supplied-numbers a) (all-numbers (map supplied-numbers ss)), total-supplied ss)
 
-pub record Delivered (numbers-room ends-room : ℕ) (ls : List (List ℕ)) : Type 0 where
-  pub count : count-holds (length ls) ≡ true
-  pub storable : Storable ls
-  pub numbers : length (all-numbers ls) ≤ numbers-room
-  pub ends : length ls ≤ ends-room
+-- ---- Two's form
+
+-- its heads read back
+bit-back : (a : Supplied) (rest : List Bool) → length (supplied-numbers a) ≤ 65535 → Head-back by-bit a rest
+unfolding supplied-numbers bit-and-count take-count
+bit-back undelivered rest h = record { made = λ xs. undelivered; taken-off = rw (taken 1 0 rest (omega arith)) refl; again = refl }
+bit-back (came l) rest h = record {
+  made = came;
+  taken-off = rw (append-assoc (field 1 1) (field 16 (length l)) rest, taken 1 1 (field 16 (length l) ++ rest) (omega arith), taken 16 (length l) rest (omega arith)) refl;
+  again = refl;
+}
+
+bit-was : (bit : ℕ) (bs behind : List Bool) (r : (ℕ × (List ℕ → Supplied)) × List Bool) → bit < 2 → bs ≡ field 1 bit ++ behind → take-count take-field bit behind ≡ accepted r → Head-was by-bit bs (r .0 .0) (r .0 .1) (r .1)
+unfolding supplied-numbers bit-and-count take-count
+bit-was zero bs behind r lt w e =
+    let q : _≡_ {A = (ℕ × (List ℕ → Supplied)) × List Bool} ((0, λ xs. undelivered), behind) r = accepted-same e in
+    subst (λ (r : (ℕ × (List ℕ → Supplied)) × List Bool). Head-was by-bit bs (r .0 .0) (r .0 .1) (r .1)) q (record { few = omega arith; written = λ xs h. w; numbers = λ xs h. empty xs h })
+  where
+    empty : (xs : List ℕ) → length xs ≡ 0 → [] ≡ xs
+    empty [] h = refl
+    empty (x ∷ xs) h = absurd (omega arith)
+bit-was (suc zero) bs behind r lt w e =
+    let a = bound (take-field 16 behind) _ r e in
+    let q : _≡_ {A = (ℕ × (List ℕ → Supplied)) × List Bool} ((a .got .0, came), a .got .1) r = accepted-same (a .rest) in
+    subst (λ (r : (ℕ × (List ℕ → Supplied)) × List Bool). Head-was by-bit bs (r .0 .0) (r .0 .1) (r .1)) q (record {
+      few = omega (arith, field-lt 16 behind (a .got) (a .first));
+      written = λ xs h. w ∙ ap (λ (l : List Bool). field 1 1 ++ l) (was-field 16 behind (a .got) (a .first) ∙ ap (λ (k : ℕ). field 16 k ++ a .got .1) (sym h)) ∙ sym (append-assoc (field 1 1) (field 16 (length xs)) (a .got .1));
+      numbers = λ xs h. refl;
+    })
+bit-was (suc (suc bit)) bs behind r lt w e = absurd (omega arith)
+
+pub by-bit-reads-back : Reads-back by-bit
+by-bit-reads-back = record {
+  back = bit-back;
+  was = λ bs count made rest e.
+      let a = bound (take-field 1 bs) _ ((count, made), rest) e in
+      bit-was (a .got .0) bs (a .got .1) ((count, made), rest) (field-lt 1 bs (a .got) (a .first)) (was-field 1 bs (a .got) (a .first)) (a .rest);
+}
+
+-- bytes that read are written back the same
+pub delivery-same : (numbers-room ends-room : ℕ) (bs : List ℕ) (ss : List Supplied) → Bytes bs → read-delivery numbers-room ends-room bs ≡ accepted ss → delivery ss ≡ bs
+unfolding read-delivery delivery
+delivery-same numbers-room ends-room bs ss h e = form-same by-bit by-bit-reads-back (some numbers-room) (some ends-room) bs ss h e
+
+pub record Delivered (numbers-room ends-room : ℕ) (ss : List Supplied) : Type 0 where
+  pub count : count-holds (length ss) ≡ true
+  pub storable : Storable (map supplied-numbers ss)
+  pub numbers : length (all-numbers (map supplied-numbers ss)) ≤ numbers-room
+  pub ends : length ss ≤ ends-room
 
 -- 1 to 32 list sets of at most 65,535 numbers, with room for their numbers and ends
-pub delivery-holds : (numbers-room ends-room : ℕ) (bs : List ℕ) (ls : List (List ℕ)) → read-delivery numbers-room ends-room bs ≡ accepted ls → Delivered numbers-room ends-room ls
+pub delivery-holds : (numbers-room ends-room : ℕ) (bs : List ℕ) (ss : List Supplied) → read-delivery numbers-room ends-room bs ≡ accepted ss → Delivered numbers-room ends-room ss
 unfolding read-delivery
-delivery-holds numbers-room ends-room bs ls e =
-    let h = reads by-count by-count-reads-back (some numbers-room) (some ends-room) bs ls e .held in
-    record { count = h .count; storable = h .storable; numbers = omega (arith, total-is ls, leb-true (total by-count ls) numbers-room (h .numbers)); ends = leb-true (length ls) ends-room (h .ends) }
+delivery-holds numbers-room ends-room bs ss e =
+    let h = reads by-bit by-bit-reads-back (some numbers-room) (some ends-room) bs ss e .held in
+    record { count = h .count; storable = storable-supplied ss (h .storable); numbers = omega (arith, total-supplied ss, leb-true (total by-bit ss) numbers-room (h .numbers)); ends = leb-true (length ss) ends-room (h .ends) }
 
 -- room for the numbers and for the ends
-room-fits : (numbers-room : ℕ) (ls : List (List ℕ)) → length (all-numbers ls) ≤ numbers-room → fits (total by-count ls) (some numbers-room) ≡ true
-room-fits numbers-room ls h = le-leb (total by-count ls) numbers-room (omega (arith, total-is ls))
+room-fits : (numbers-room : ℕ) (ss : List Supplied) → length (all-numbers (map supplied-numbers ss)) ≤ numbers-room → fits (total by-bit ss) (some numbers-room) ≡ true
+room-fits numbers-room ss h = le-leb (total by-bit ss) numbers-room (omega (arith, total-supplied ss))
 
 ends-fit : (ends-room n : ℕ) → n ≤ ends-room → fits n (some ends-room) ≡ true
 ends-fit ends-room n h = le-leb n ends-room h
 
 -- what is written from lists reads back as those lists
-pub delivery-written : (numbers-room ends-room : ℕ) (ls : List (List ℕ)) → count-holds (length ls) ≡ true → Storable ls → length (all-numbers ls) ≤ numbers-room → length ls ≤ ends-room
-    → read-delivery numbers-room ends-room (delivery ls) ≡ accepted ls
+pub delivery-written : (numbers-room ends-room : ℕ) (ss : List Supplied) → count-holds (length ss) ≡ true → Storable (map supplied-numbers ss) → length (all-numbers (map supplied-numbers ss)) ≤ numbers-room → length ss ≤ ends-room
+    → read-delivery numbers-room ends-room (delivery ss) ≡ accepted ss
 unfolding read-delivery delivery
-delivery-written numbers-room ends-room ls c s h₁ h₂ =
-    form-written by-count by-count-reads-back (some numbers-room) (some ends-room) ls (record { count = c; storable = s; numbers = room-fits numbers-room ls h₁; ends = ends-fit ends-room (length ls) h₂ })
+delivery-written numbers-room ends-room ss c s h₁ h₂ =
+    form-written by-bit by-bit-reads-back (some numbers-room) (some ends-room) ss (record { count = c; storable = supplied-storable ss s; numbers = room-fits numbers-room ss h₁; ends = ends-fit ends-room (length ss) h₂ })
 
 -- what is accepted with room is accepted with no row lent; and the other way round, where there is room for it
-pub stored-too : (numbers-room ends-room : ℕ) (bs : List ℕ) (ls : List (List ℕ)) → read-delivery numbers-room ends-room bs ≡ accepted ls → read-stored by-count bs ≡ accepted ls
+pub stored-too : (numbers-room ends-room : ℕ) (bs : List ℕ) (ss : List Supplied) → read-delivery numbers-room ends-room bs ≡ accepted ss → read-stored by-bit bs ≡ accepted ss
 unfolding read-delivery read-stored
-stored-too numbers-room ends-room bs ls e = form-room by-count by-count-reads-back (some numbers-room) (some ends-room) none none bs ls e refl refl
+stored-too numbers-room ends-room bs ss e = form-room by-bit by-bit-reads-back (some numbers-room) (some ends-room) none none bs ss e refl refl
 
-pub stored-fits : (numbers-room ends-room : ℕ) (bs : List ℕ) (ls : List (List ℕ)) → read-stored by-count bs ≡ accepted ls → length (all-numbers ls) ≤ numbers-room → length ls ≤ ends-room → read-delivery numbers-room ends-room bs ≡ accepted ls
+pub stored-fits : (numbers-room ends-room : ℕ) (bs : List ℕ) (ss : List Supplied) → read-stored by-bit bs ≡ accepted ss → length (all-numbers (map supplied-numbers ss)) ≤ numbers-room → length ss ≤ ends-room → read-delivery numbers-room ends-room bs ≡ accepted ss
 unfolding read-delivery read-stored
-stored-fits numbers-room ends-room bs ls e h₁ h₂ = form-room by-count by-count-reads-back none none (some numbers-room) (some ends-room) bs ls e (room-fits numbers-room ls h₁) (ends-fit ends-room (length ls) h₂)
+stored-fits numbers-room ends-room bs ss e h₁ h₂ = form-room by-bit by-bit-reads-back none none (some numbers-room) (some ends-room) bs ss e (room-fits numbers-room ss h₁) (ends-fit ends-room (length ss) h₂)
+
+-- ---- the two forms
+
+-- lists in 01's form and the same lists in Two's, all delivered: what can be held in one can be held in the other
+pub came-numbers : (ls : List (List ℕ)) → map supplied-numbers (map came ls) ≡ ls
+unfolding supplied-numbers
+came-numbers [] = refl
+came-numbers (l ∷ ls) = ap (λ (r : List (List ℕ)). l ∷ r) (came-numbers ls)
+
+pub numbers-came : (ss : List Supplied) → all-delivered ss ≡ true → map came (map supplied-numbers ss) ≡ ss
+unfolding supplied-numbers all-delivered is-delivered
+numbers-came [] h = refl
+numbers-came (undelivered ∷ ss) h = absurd (not-both h refl)
+numbers-came (came l ∷ ss) h = ap (λ (r : List Supplied). came l ∷ r) (numbers-came ss h)
+
+pub came-all : (ls : List (List ℕ)) → all-delivered (map came ls) ≡ true
+unfolding all-delivered is-delivered
+came-all [] = refl
+came-all (l ∷ ls) = came-all ls
+
+-- what was read in either form without a row lent is written in the other and read again
+pub old-as-new : (bs : List ℕ) (ls : List (List ℕ)) → read-stored by-count bs ≡ accepted ls → read-stored by-bit (delivery (map came ls)) ≡ accepted (map came ls)
+unfolding read-stored delivery
+old-as-new bs ls e =
+    let h = reads by-count by-count-reads-back none none bs ls e .held in
+    form-written by-bit by-bit-reads-back none none (map came ls) (record { count = ap count-holds (length-map ls came) ∙ h .count; storable = supplied-storable (map came ls) (subst Storable (sym (came-numbers ls)) (h .storable)); numbers = refl; ends = refl })
+
+pub new-as-old : (bs : List ℕ) (ss : List Supplied) → read-stored by-bit bs ≡ accepted ss → read-stored by-count (old-delivery (map supplied-numbers ss)) ≡ accepted (map supplied-numbers ss)
+unfolding read-stored old-delivery
+new-as-old bs ss e =
+    let h = reads by-bit by-bit-reads-back none none bs ss e .held in
+    form-written by-count by-count-reads-back none none (map supplied-numbers ss) (record { count = ap count-holds (length-map ss supplied-numbers) ∙ h .count; storable = storable-supplied ss (h .storable); numbers = refl; ends = refl })

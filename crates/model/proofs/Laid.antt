@@ -1,22 +1,28 @@
 -- Lists laid one after the other in one row: their ends give them back, and pass 7, 10 and 11; and the part of list k is
 -- list k. Assumes nothing.
-use mathlib.Core.Path.{_≡_, refl, sym, ap, ap₂, _∙_}
+use mathlib.Core.Path.{_≡_, refl, sym, ap, ap₂, _∙_, subst}
 use mathlib.Core.Bool.{true}
-use mathlib.Core.List.{List, [], _∷_, _++_, append-assoc, append-nil}
+use mathlib.Core.List.{List, [], _∷_, _++_, append-assoc, append-nil, map}
 use Prim.Native.Nat.{ℕ, zero, suc, _+_, _-_, _≤_, _<_}
 use native.Mathlib.Omega.{arith}
 use lib.Dec.{leb}
 use borrow.Author.Tests.{le-leb, lt-ltb, le-ltb, leb-true}
-use lib.ListN.{length, getD, take, drop, length-append, length-take, length-drop}
+use lib.ListN.{length, getD, take, drop, length-append, length-take, length-drop, length-map}
 use lib.Seq.{take-at, drop-at}
 use Rattle.model.specs.Outcome.{refused, accepted}
-use Rattle.model.specs.Lists.{Numbers, ascending, all-ascending, part, lists-from, count-holds, ends-hold, Lent, lend, lists-of, or-empty, span-of, part-of}
+use Rattle.model.specs.Lists.{Numbers, ascending, all-ascending, part, lists-from, count-holds, ends-hold, word-holds, Lent, lend, lists-of, or-empty, span-of, part-of}
 use Rattle.model.specs.Sets.{all-numbers}
-use Rattle.model.specs.Calls.{ends-from, laid-out}
+use Rattle.model.specs.Delivery.{Supplied, came, supplied-numbers, supplied, word-of}
+use Rattle.model.specs.Calls.{ends-from, laid-with, laid-out}
 use Rattle.model.proofs.Order.{and-true, Up}
 use Rattle.model.proofs.Denoted.{up-ascending}
 use Rattle.model.proofs.Accepted.{numbers-part, ascending-up, lists-accepted}
-use Rattle.model.proofs.Deliveries.{Storable}
+use Rattle.model.proofs.Deliveries.{Storable, came-numbers}
+use Rattle.model.proofs.Word.{Empty-where, undelivered-empty, numbers-supplied, said-holds, word-said}
+
+pub at-most-32 : (lists : ℕ) → count-holds lists ≡ true → lists ≤ 32
+unfolding count-holds
+at-most-32 lists h = leb-true lists 32 (and-true (leb 1 lists) (leb lists 32) h .1)
 
 -- behind a row `before`, and with anything after them
 laid-from : (before : List ℕ) (ls : List (List ℕ)) (after : List ℕ) → lists-from (before ++ (all-numbers ls ++ after)) (length before) (ends-from (length before) ls) ≡ ls
@@ -75,13 +81,26 @@ lists-length numbers start [] = refl
 lists-length numbers start (stop ∷ ends) = ap suc (lists-length numbers stop ends)
 
 -- lists that a delivery can hold, laid one after the other, are accepted as those lists, whatever stands behind them
-pub laid-over : (ls : List (List ℕ)) (rest : List ℕ) → count-holds (length ls) ≡ true → Storable ls → lists-of (lend (all-numbers ls ++ rest) (ends-from 0 ls)) ≡ accepted ls
+pub laid-over : (word : ℕ) (ls : List (List ℕ)) (rest : List ℕ) → count-holds (length ls) ≡ true → Storable ls → word-holds word 0 0 (ends-from 0 ls) ≡ true → lists-of (lend (all-numbers ls ++ rest) (ends-from 0 ls) word) ≡ accepted ls
 unfolding lists-of
-laid-over ls rest c s =
-    rw (ends-length 0 ls, c, laid-ends (length (all-numbers ls ++ rest)) 0 ls s (omega (arith, length-append (all-numbers ls) rest)), laid-from [] ls rest, laid-rise ls s)
+laid-over word ls rest c s h =
+    rw (ends-length 0 ls, c, laid-ends (length (all-numbers ls ++ rest)) 0 ls s (omega (arith, length-append (all-numbers ls) rest)), h, laid-from [] ls rest, laid-rise ls s)
 
-pub laid : (ls : List (List ℕ)) → count-holds (length ls) ≡ true → Storable ls → lists-of (laid-out ls) ≡ accepted ls
-laid ls c s = ap (λ (r : List ℕ). lists-of (lend r (ends-from 0 ls))) (sym (append-nil (all-numbers ls))) ∙ laid-over ls [] c s
+pub laid : (word : ℕ) (ls : List (List ℕ)) → count-holds (length ls) ≡ true → Storable ls → word-holds word 0 0 (ends-from 0 ls) ≡ true → lists-of (laid-with word ls) ≡ accepted ls
+laid word ls c s h = ap (λ (r : List ℕ). lists-of (lend r (ends-from 0 ls) word)) (sym (append-nil (all-numbers ls))) ∙ laid-over word ls [] c s h
+
+-- so are those of a delivery
+pub laid-supplied : (ss : List Supplied) (rest : List ℕ) → count-holds (length ss) ≡ true → Storable (map supplied-numbers ss) → let ls = map supplied-numbers ss in lists-of (lend (all-numbers ls ++ rest) (ends-from 0 ls) (word-of ss)) ≡ accepted ls
+laid-supplied ss rest c s = laid-over (word-of ss) (map supplied-numbers ss) rest (ap count-holds (length-map ss supplied-numbers) ∙ c) s (said-holds (word-of ss) 0 0 ss (word-said ss (at-most-32 (length ss) c)))
+
+-- and lists of which all came
+pub laid-came : (ls : List (List ℕ)) (rest : List ℕ) → count-holds (length ls) ≡ true → Storable ls → lists-of (lend (all-numbers ls ++ rest) (ends-from 0 ls) (word-of (map came ls))) ≡ accepted ls
+laid-came ls rest c s =
+    let are = came-numbers ls in
+    ap (λ (m : List (List ℕ)). lists-of (lend (all-numbers m ++ rest) (ends-from 0 m) (word-of (map came ls)))) (sym are) ∙ laid-supplied (map came ls) rest (ap count-holds (length-map ls came) ∙ c) (subst Storable (sym are) s) ∙ ap accepted are
+
+pub laid-delivery : (ss : List Supplied) → count-holds (length ss) ≡ true → Storable (map supplied-numbers ss) → lists-of (laid-out ss) ≡ accepted (map supplied-numbers ss)
+laid-delivery ss c s = let ls = map supplied-numbers ss in ap (λ (r : List ℕ). lists-of (lend r (ends-from 0 ls) (word-of ss))) (sym (append-nil (all-numbers ls))) ∙ laid-supplied ss [] c s
 
 -- and accepted lists are such lists
 lists-storable : (numbers : List ℕ) (start : ℕ) (ends : List ℕ) → Numbers numbers → ends-hold (length numbers) start ends ≡ true → all-ascending (lists-from numbers start ends) ≡ true → Storable (lists-from numbers start ends)
@@ -101,6 +120,13 @@ pub storable-accepted : (l : Lent) (ls : List (List ℕ)) → Numbers (l .number
 storable-accepted l ls n e =
     let a = lists-accepted l ls e in
     rw (← a .are) (lists-storable (l .numbers) 0 (l .ends) n (a .hold) (a .rise), ap count-holds (lists-length (l .numbers) 0 (l .ends)) ∙ a .count)
+
+-- of which the undelivered ones are empty
+pub accepted-empty : (l : Lent) (ls : List (List ℕ)) → lists-of l ≡ accepted ls → Empty-where (l .word) 0 ls
+accepted-empty l ls e = let a = lists-accepted l ls e in subst (Empty-where (l .word) 0) (a .are) (undelivered-empty (l .word) 0 (l .numbers) 0 (l .ends) (a .told))
+
+pub accepted-supplied : (l : Lent) (ls : List (List ℕ)) → lists-of l ≡ accepted ls → map supplied-numbers (supplied (l .word) ls) ≡ ls
+accepted-supplied l ls e = numbers-supplied (l .word) 0 ls (accepted-empty l ls e)
 
 -- ---- the part of list k
 

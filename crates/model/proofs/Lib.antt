@@ -12,6 +12,7 @@ pub mod Accepted
 pub mod DemandThree
 pub mod Fuel
 pub mod Deliveries
+pub mod Word
 pub mod Rooms
 pub mod Sizes
 pub mod Laid

@@ -13,8 +13,8 @@ use Rattle.model.specs.Expression.{Tree, leaf, difference, union, inters
 use Rattle.model.specs.Machine.{Call, calls, encode}
 use Rattle.model.specs.Run.{State, step, steps, Start, starting, begin, Result, run, named-in, run-of}
 use Rattle.model.specs.Forms.{nodes, nodes-all, row-byte, row, packed, there, read-row, read-packed}
-use Rattle.model.specs.Delivery.{delivery, read-delivery}
-use Rattle.model.specs.Calls.{unpack-expression, pack-expression, decode-delivery, encode-delivery, run-parts, run-size, run-call}
+use Rattle.model.specs.Delivery.{by-count, came, supplied-numbers, all-delivered, by-bit, read-stored, delivery, read-delivery, old-delivery, supplied}
+use Rattle.model.specs.Calls.{unpack-expression, pack-expression, decode-delivery, stored, encode-delivery, upgrade-delivery, downgrade-delivery, run-parts, run-size, run-call}
 use Rattle.model.specs.Program.{listing, listed, list-members}
 use Rattle.model.proofs.Accepted.{accepted-same, bound, required, packed-reads}
 use Rattle.model.proofs.Places.{counted-run}
@@ -82,35 +82,50 @@ replies-long ls t start codes ds h = steps-long ls t (begin start) (calls codes 
 
 -- ---- the calls
 
-pub unpack-shape : (bytes : List ℕ) (lists : ℕ) (lent : List ℕ) → Shape 1 (lent ∷ []) (unpack-expression bytes lists lent)
+pub unpack-shape : (bytes : List ℕ) (lists word : ℕ) (lent : List ℕ) → Shape 1 (lent ∷ []) (unpack-expression bytes lists word lent)
 unfolding unpack-expression
-unpack-shape bytes lists lent = sent-shape 1 (lent ∷ []) _ (λ s e.
+unpack-shape bytes lists word lent = sent-shape 1 (lent ∷ []) _ (λ s e.
     let a = required 7 (count-holds lists) _ s e in
-    let b = bound (read-packed (there lists) bytes) _ s (a .1) in
+    let b = bound (read-packed (there lists word) bytes) _ s (a .1) in
     let c = required 6 (leb (size (b .got)) (length lent)) _ s (b .rest) in
     subst (Fits 1 (lent ∷ [])) (accepted-same (c .1)) (refl, (omega (arith, row-long (b .got), leb-true (size (b .got)) (length lent) (c .0)), tt)))
 
-pub pack-shape : (bytes : List ℕ) (lists : ℕ) (lent : List ℕ) → Shape 1 (lent ∷ []) (pack-expression bytes lists lent)
+pub pack-shape : (bytes : List ℕ) (lists word : ℕ) (lent : List ℕ) → Shape 1 (lent ∷ []) (pack-expression bytes lists word lent)
 unfolding pack-expression
-pack-shape bytes lists lent = sent-shape 1 (lent ∷ []) _ (λ s e.
+pack-shape bytes lists word lent = sent-shape 1 (lent ∷ []) _ (λ s e.
     let a = required 7 (count-holds lists) _ s e in
-    let b = bound (read-row (there lists) bytes) _ s (a .1) in
+    let b = bound (read-row (there lists word) bytes) _ s (a .1) in
     let c = required 6 (leb (length (packed (b .got))) (length lent)) _ s (b .rest) in
     subst (Fits 1 (lent ∷ [])) (accepted-same (c .1)) (refl, (leb-true (length (packed (b .got))) (length lent) (c .0), tt)))
 
-pub decode-shape : (bytes lent-numbers lent-ends : List ℕ) → Shape 2 (lent-numbers ∷ lent-ends ∷ []) (decode-delivery bytes lent-numbers lent-ends)
+pub decode-shape : (bytes lent-numbers lent-ends : List ℕ) → Shape 3 (lent-numbers ∷ lent-ends ∷ []) (decode-delivery bytes lent-numbers lent-ends)
 unfolding decode-delivery
-decode-shape bytes lent-numbers lent-ends = sent-shape 2 (lent-numbers ∷ lent-ends ∷ []) _ (λ s e.
+decode-shape bytes lent-numbers lent-ends = sent-shape 3 (lent-numbers ∷ lent-ends ∷ []) _ (λ s e.
     let a = bound (read-delivery (length lent-numbers) (length lent-ends) bytes) _ s e in
     let d = delivery-holds (length lent-numbers) (length lent-ends) bytes (a .got) (a .first) in
-    subst (Fits 2 (lent-numbers ∷ lent-ends ∷ [])) (accepted-same (a .rest)) (refl, (d .numbers, (omega (arith, d .ends, ends-length 0 (a .got)), tt))))
+    subst (Fits 3 (lent-numbers ∷ lent-ends ∷ [])) (accepted-same (a .rest)) (refl, (d .numbers, (omega (arith, d .ends, ends-length 0 (map supplied-numbers (a .got)), length-map (a .got) supplied-numbers), tt))))
+
+-- bytes written
+stored-fits : (bytes lent : List ℕ) (s : Success) → stored bytes lent ≡ accepted s → Fits 1 (lent ∷ []) s
+unfolding stored
+stored-fits bytes lent s e =
+    let b = required 6 (leb (length bytes) (length lent)) _ s e in
+    subst (Fits 1 (lent ∷ [])) (accepted-same (b .1)) (refl, (leb-true (length bytes) (length lent) (b .0), tt))
 
 pub encode-shape : (l : Lent) (lent : List ℕ) → Shape 1 (lent ∷ []) (encode-delivery l lent)
 unfolding encode-delivery
-encode-shape l lent = sent-shape 1 (lent ∷ []) _ (λ s e.
-    let a = bound (lists-of l) _ s e in
-    let b = required 6 (leb (length (delivery (a .got))) (length lent)) _ s (a .rest) in
-    subst (Fits 1 (lent ∷ [])) (accepted-same (b .1)) (refl, (leb-true (length (delivery (a .got))) (length lent) (b .0), tt)))
+encode-shape l lent = sent-shape 1 (lent ∷ []) _ (λ s e. let a = bound (lists-of l) _ s e in stored-fits (delivery (supplied (l .word) (a .got))) lent s (a .rest))
+
+pub upgrade-shape : (bytes lent : List ℕ) → Shape 1 (lent ∷ []) (upgrade-delivery bytes lent)
+unfolding upgrade-delivery
+upgrade-shape bytes lent = sent-shape 1 (lent ∷ []) _ (λ s e. let a = bound (read-stored by-count bytes) _ s e in stored-fits (delivery (map came (a .got))) lent s (a .rest))
+
+pub downgrade-shape : (bytes lent : List ℕ) → Shape 1 (lent ∷ []) (downgrade-delivery bytes lent)
+unfolding downgrade-delivery
+downgrade-shape bytes lent = sent-shape 1 (lent ∷ []) _ (λ s e.
+    let a = bound (read-stored by-bit bytes) _ s e in
+    let b = required 19 (all-delivered (a .got)) _ s (a .rest) in
+    stored-fits (old-delivery (map supplied-numbers (a .got))) lent s (b .1))
 
 -- the parts of a run's result are as many, whatever they are
 parts-long : (moves : ℕ) (places : List ℕ) (last : Start) → length places ≡ 48 → length (run-parts moves places last) ≡ run-size

@@ -14,7 +14,7 @@ use Rattle.model.specs.Outcome.{Outcome, refused, accepted, _>>=_, _>>_,
 use Rattle.model.specs.Lists.{top}
 use Rattle.model.specs.Expression.{Tree, union, intersection, Members, one}
 use Rattle.model.specs.Forms.{take-rest, take-kind, take-node, Leaf-test, read-members, operator, read-below, read-tree}
-use Rattle.model.specs.Delivery.{largest-gap, width, read-gaps, read-body, Form, by-count, read-list, read-lists}
+use Rattle.model.specs.Delivery.{largest-gap, width, read-gaps, read-body, Form, by-count, take-count, by-bit, read-list, read-lists}
 
 module _ {S T : Type 0} (see : S → T) where
   -- what was taken off the first source, with its place seen in the second
@@ -107,6 +107,14 @@ module _ {S T : Type 0} (see : S → T) (take-bits₁ : ℕ → S → Outcome (�
   pub by-count-seen : (s : S) → by-count .take-head take-bits₂ (see s) ≡ seen see (by-count .take-head take-bits₁ s)
   unfolding seen
   by-count-seen s = then see (take-bits₁ 16 s) _ _ (alike 16 s) (λ count r. refl)
+
+  pub by-bit-seen : (s : S) → by-bit .take-head take-bits₂ (see s) ≡ seen see (by-bit .take-head take-bits₁ s)
+  unfolding take-count seen
+  by-bit-seen s = then see (take-bits₁ 1 s) _ _ (alike 1 s) count-seen
+    where
+      count-seen : (bit : ℕ) (s : S) → take-count take-bits₂ bit (see s) ≡ seen see (take-count take-bits₁ bit s)
+      count-seen zero s = refl
+      count-seen (suc bit) s = then see (take-bits₁ 16 s) _ _ (alike 16 s) (λ count r. refl)
 
 -- sources off which nodes are taken alike
 module _ {S T : Type 0} (see : S → T) (test : Leaf-test) (take-one₁ : S → Outcome (Node × S)) (take-one₂ : T → Outcome (Node × T))

@@ -3,7 +3,7 @@
 use mathlib.Core.Path.{_≡_, refl}
 use mathlib.Core.Bool.{true, false}
 use mathlib.Core.List.{List, [], _∷_, _++_, map, flatMap}
-use Prim.Native.Nat.{ℕ, zero, suc, _-_}
+use Prim.Native.Nat.{ℕ, zero, suc, _+_, _-_}
 use native.Mathlib.Omega.{arith}
 use Rattle.model.specs.Lists.{Numbers, Lent, lend}
 use lib.ListN.{replicate, length}
@@ -21,15 +21,16 @@ use Rattle.model.specs.Fields
 use Rattle.model.specs.Forms
 use Rattle.model.specs.Forms.{row, packed, there, read-row, read-packed}
 use Rattle.model.specs.Delivery
-use Rattle.model.specs.Delivery.{by-count, read-stored, delivery, read-delivery}
-use Rattle.model.specs.Calls.{unpack-expression, pack-expression, decode-delivery, encode-delivery, run-size, run-call, ends-from}
+use Rattle.model.specs.Delivery.{by-count, undelivered, came, by-bit, read-stored, delivery, read-delivery, old-delivery, read-old-delivery}
+use Rattle.model.specs.Calls.{unpack-expression, pack-expression, decode-delivery, encode-delivery, stored, upgrade-delivery, downgrade-delivery, run-size, run-call, ends-from}
 use Rattle.model.specs.Program.{halves, listing-of, listing, listed, list-members}
 use Rattle.model.specs.Update
 use Rattle.model.specs.Update.{Change, change, update, updated}
+use Rattle.model.specs.RequestTwo.{every-bit}
 
 -- opens the definitions: under `unfolding computes` each side of a table computes
 opens-lists : Unit {0}
-unfolding sent over Lists.span-of Lists.or-empty Lists.count-holds Lists.lists-of Lists.lists-from Lists.part Lists.ends-hold Lists.all-ascending Lists.ascending Lists.rises size count sizes
+unfolding sent over Lists.span-of Lists.or-empty Lists.count-holds Lists.lists-of Lists.lists-from Lists.part Lists.ends-hold Lists.delivered Lists.word-holds Lists.all-ascending Lists.ascending Lists.rises size count sizes
 opens-lists = tt
 
 opens-machine : Unit {0}
@@ -45,11 +46,11 @@ unfolding Fields.take-field Fields.bits Fields.field Fields.value Fields.only-fi
 opens-forms = tt
 
 opens-delivery : Unit {0}
-unfolding read-delivery read-stored Delivery.read-in Delivery.read-lists Delivery.read-list Delivery.read-body Delivery.read-gaps Delivery.width Delivery.width-from Delivery.largest-gap delivery Delivery.delivery-in flatMap Delivery.list-bits Delivery.body-bits Delivery.gap-bits
+unfolding read-delivery read-old-delivery read-stored Delivery.read-in Delivery.read-lists Delivery.read-list Delivery.read-body Delivery.read-gaps Delivery.width Delivery.width-from Delivery.largest-gap delivery old-delivery Delivery.delivery-in flatMap Delivery.list-bits Delivery.body-bits Delivery.gap-bits Delivery.supplied-numbers Delivery.is-delivered Delivery.all-delivered Delivery.bit-and-count Delivery.take-count Delivery.supplied-from Delivery.word-of
 opens-delivery = tt
 
 opens-calls : Unit {0}
-unfolding unpack-expression pack-expression decode-delivery encode-delivery run-call ends-from listing listing-of halves listed list-members
+unfolding unpack-expression pack-expression decode-delivery encode-delivery stored upgrade-delivery downgrade-delivery run-call ends-from listing listing-of halves listed list-members
 opens-calls = tt
 
 opens-update : Unit {0}
@@ -60,9 +61,13 @@ computes : Unit {0}
 unfolding opens-lists opens-machine opens-steps opens-forms opens-delivery opens-calls opens-update
 computes = tt
 
--- the program's stored example: 01 00 04 00 0C 00 00 00 08 08
+-- P9's list 2 3 5 in Two's form, a bit of 1 ahead of its count; and the program's stored example, the expression list 0
+-- over it: 01 00 06 00 06 00 00 00 04 04
+abbrev new-235 : List ℕ
+new-235 = 0x06 ∷ 0x00 ∷ 0x06 ∷ 0x00 ∷ 0x00 ∷ 0x00 ∷ 0x04 ∷ 0x04 ∷ []
+
 abbrev stored-example : List ℕ
-stored-example = 0x01 ∷ 0x00 ∷ 0x04 ∷ 0x00 ∷ 0x0C ∷ 0x00 ∷ 0x00 ∷ 0x00 ∷ 0x08 ∷ 0x08 ∷ []
+stored-example = 0x01 ∷ 0x00 ∷ new-235
 
 -- L0 to L3 of the report's figures 1 to 3
 abbrev pub figures : List (List ℕ)
@@ -210,19 +215,20 @@ stated r = (
 abbrev pub expressions : List (List ℕ × Tree)
 expressions = (0x40 ∷ 0x01 ∷ [], difference (leaf 0) (leaf 1)) ∷ (0x88 ∷ 0x00 ∷ 0x20 ∷ [], union (more (leaf 0) (one (leaf 1)))) ∷ []
 
--- P9, read and written: bytes, and the lists that they are
+-- P9, read and written: bytes, and the lists that they are. Two: "P9 and the table's delivery bytes stay the old form's"
+abbrev old-235 : List ℕ
+old-235 = 0x04 ∷ 0x00 ∷ 0x0C ∷ 0x00 ∷ 0x00 ∷ 0x00 ∷ 0x08 ∷ 0x08 ∷ []
+
 abbrev pub deliveries : List (List ℕ × List (List ℕ))
-deliveries =
-    (0x04 ∷ 0x00 ∷ 0x0C ∷ 0x00 ∷ 0x00 ∷ 0x00 ∷ 0x08 ∷ 0x08 ∷ [], (2 ∷ 3 ∷ 5 ∷ []) ∷ []) ∷
-    (0x04 ∷ 0x00 ∷ 0x00 ∷ [], [] ∷ []) ∷ []
+deliveries = (old-235, (2 ∷ 3 ∷ 5 ∷ []) ∷ []) ∷ (0x04 ∷ 0x00 ∷ 0x00 ∷ [], [] ∷ []) ∷ []
 
 -- P1 to P9
 pub record Papers : Type 0 where
   pub P1-to-P7 : map computed runs ≡ map stated runs
-  pub P8-read : map (λ e. read-packed (there 2) (e .0)) expressions ≡ map (λ e. accepted (e .1)) expressions
+  pub P8-read : map (λ e. read-packed (there 2 every-bit) (e .0)) expressions ≡ map (λ e. accepted (e .1)) expressions
   pub P8-written : map (λ e. packed (e .1)) expressions ≡ map (λ e. e .0) expressions
-  pub P9-read : map (λ d. read-delivery 3 1 (d .0)) deliveries ≡ map (λ d. accepted (d .1)) deliveries
-  pub P9-written : map (λ d. delivery (d .1)) deliveries ≡ map (λ d. d .0) deliveries
+  pub P9-read : map (λ d. read-old-delivery 3 1 (d .0)) deliveries ≡ map (λ d. accepted (d .1)) deliveries
+  pub P9-written : map (λ d. old-delivery (d .1)) deliveries ≡ map (λ d. d .0) deliveries
 
 pub papers : Papers
 unfolding computes
@@ -294,23 +300,34 @@ slipping-points = refl
 abbrev eight-of-list-0 : List ℕ
 eight-of-list-0 = 136 ∷ replicate 8 0
 
--- the refusal table's small inputs in its order, 1 to 14, and the byte behind the last known one, each with lent rows of 7s
+-- the refusal table's delivery bytes, 7 to 9
+abbrev old-7 : List ℕ
+old-7 = 0x00 ∷ []
+
+abbrev old-8 : List ℕ
+old-8 = 0x04 ∷ 0x00 ∷ 0x0B ∷ 0xFF ∷ 0xFF ∷ 0xFF ∷ 0xFC ∷ 0x00 ∷ []
+
+abbrev old-9 : List ℕ
+old-9 = 0x04 ∷ 0x00 ∷ 0x08 ∷ 0x00 ∷ 0x00 ∷ 0x00 ∷ 0x08 ∷ 0x20 ∷ []
+
+-- the refusal table's small inputs in its order, 1 to 14, and the byte behind the last known one, each with lent rows of 7s;
+-- the old form's bytes as the call that reads them sends them back
 abbrev pub refused-inputs : List Sent
 refused-inputs =
-    unpack-expression [] 1 lent ∷
-    pack-expression (136 ∷ (eight-of-list-0 ++ eight-of-list-0 ++ eight-of-list-0 ++ eight-of-list-0 ++ eight-of-list-0 ++ replicate 3 0)) 1 lent ∷
-    unpack-expression (0x84 ∷ 0x21 ∷ 0x08 ∷ 0x42 ∷ 0x10 ∷ 0x84 ∷ 0x21 ∷ 0x00 ∷ 0x00 ∷ []) 1 lent ∷
-    unpack-expression (0x02 ∷ []) 1 lent ∷
-    unpack-expression (0x01 ∷ []) 1 lent ∷
-    decode-delivery (0x04 ∷ 0x00 ∷ 0x0C ∷ 0x00 ∷ 0x00 ∷ 0x00 ∷ 0x08 ∷ 0x08 ∷ []) lent lent ∷
-    decode-delivery (0x00 ∷ []) lent lent ∷
-    decode-delivery (0x04 ∷ 0x00 ∷ 0x0B ∷ 0xFF ∷ 0xFF ∷ 0xFF ∷ 0xFC ∷ 0x00 ∷ []) lent lent ∷
-    decode-delivery (0x04 ∷ 0x00 ∷ 0x08 ∷ 0x00 ∷ 0x00 ∷ 0x00 ∷ 0x08 ∷ 0x20 ∷ []) lent lent ∷
-    encode-delivery (lend (2 ∷ 3 ∷ []) (2 ∷ 1 ∷ [])) lent ∷
-    encode-delivery (lend (5 ∷ 5 ∷ []) (2 ∷ [])) lent ∷
-    run-call (lend (5 ∷ []) (1 ∷ [])) (0x00 ∷ []) (starting 4294967297) (0 ∷ []) (0 ∷ []) lent ∷
-    run-call (lend (5 ∷ []) (1 ∷ [])) (0x00 ∷ []) (starting 0) (0 ∷ []) [] lent ∷
-    pack-expression (32 ∷ []) 1 lent ∷ pack-expression (201 ∷ replicate 9 0) 1 lent ∷ []
+    unpack-expression [] 1 every-bit lent ∷
+    pack-expression (136 ∷ (eight-of-list-0 ++ eight-of-list-0 ++ eight-of-list-0 ++ eight-of-list-0 ++ eight-of-list-0 ++ replicate 3 0)) 1 every-bit lent ∷
+    unpack-expression (0x84 ∷ 0x21 ∷ 0x08 ∷ 0x42 ∷ 0x10 ∷ 0x84 ∷ 0x21 ∷ 0x00 ∷ 0x00 ∷ []) 1 every-bit lent ∷
+    unpack-expression (0x02 ∷ []) 1 every-bit lent ∷
+    unpack-expression (0x01 ∷ []) 1 every-bit lent ∷
+    decode-delivery new-235 lent lent ∷
+    upgrade-delivery old-7 lent ∷
+    upgrade-delivery old-8 lent ∷
+    upgrade-delivery old-9 lent ∷
+    encode-delivery (lend (2 ∷ 3 ∷ []) (2 ∷ 1 ∷ []) every-bit) lent ∷
+    encode-delivery (lend (5 ∷ 5 ∷ []) (2 ∷ []) every-bit) lent ∷
+    run-call (lend (5 ∷ []) (1 ∷ []) every-bit) (0x00 ∷ []) (starting 4294967297) (0 ∷ []) (0 ∷ []) lent ∷
+    run-call (lend (5 ∷ []) (1 ∷ []) every-bit) (0x00 ∷ []) (starting 0) (0 ∷ []) [] lent ∷
+    pack-expression (32 ∷ []) 1 every-bit lent ∷ pack-expression (201 ∷ replicate 9 0) 1 every-bit lent ∷ []
   where
     lent : List ℕ
     lent = 7 ∷ 7 ∷ []
@@ -319,24 +336,38 @@ abbrev pub refusal : ℕ → ℕ → ℕ → Sent
 refusal n parts rows = record { number = n; parts = replicate parts 0; rows = replicate rows (7 ∷ 7 ∷ []) }
 
 pub refusals : refused-inputs ≡
-    refusal 1 1 1 ∷ refusal 2 1 1 ∷ refusal 3 1 1 ∷ refusal 4 1 1 ∷ refusal 5 1 1 ∷ refusal 6 2 2 ∷ refusal 7 2 2 ∷ refusal 8 2 2 ∷ refusal 9 2 2 ∷
+    refusal 1 1 1 ∷ refusal 2 1 1 ∷ refusal 3 1 1 ∷ refusal 4 1 1 ∷ refusal 5 1 1 ∷ refusal 6 3 2 ∷ refusal 7 1 1 ∷ refusal 8 1 1 ∷ refusal 9 1 1 ∷
     refusal 10 1 1 ∷ refusal 11 1 1 ∷ refusal 12 run-size 1 ∷ refusal 13 run-size 1 ∷ refusal 14 1 1 ∷ refusal 14 1 1 ∷ []
 unfolding computes
 refusals = refl
 
+-- 6 to 9 as the old form's reading refuses them, with rows lent: 2 places for numbers and 2 for ends
+pub refusals-old : map (read-old-delivery 2 2) (old-235 ∷ old-7 ∷ old-8 ∷ old-9 ∷ []) ≡ map refused (6 ∷ 7 ∷ 8 ∷ 9 ∷ [])
+unfolding computes
+refusals-old = refl
+
+-- and the same in Two's form, a bit of 1 ahead of each count: count 2, first 4294967295, width 1, gap 0; count 2, first 2,
+-- width 2, gap 0
+pub refusals-new :
+    map (λ bytes. decode-delivery bytes (7 ∷ 7 ∷ []) (7 ∷ 7 ∷ []))
+    (new-235 ∷ (0x00 ∷ []) ∷ (0x06 ∷ 0x00 ∷ 0x05 ∷ 0xFF ∷ 0xFF ∷ 0xFF ∷ 0xFE ∷ 0x00 ∷ []) ∷ (0x06 ∷ 0x00 ∷ 0x04 ∷ 0x00 ∷ 0x00 ∷ 0x00 ∷ 0x04 ∷ 0x10 ∷ []) ∷ [])
+    ≡ refusal 6 3 2 ∷ refusal 7 3 2 ∷ refusal 8 3 2 ∷ refusal 9 3 2 ∷ []
+unfolding computes
+refusals-new = refl
+
 -- what success sends back: the parts in 01's order, and behind the written elements what the row held. P8 unpacked and
--- packed, P9 read and written, and a run with every kind of reply over the list 2 3 5
+-- packed, P9's list read and written in Two's form, and a run with every kind of reply over it
 pub successes :
-    unpack-expression (0x40 ∷ 0x01 ∷ []) 2 (7 ∷ 7 ∷ 7 ∷ 7 ∷ []) ∷
-    pack-expression (64 ∷ 0 ∷ 1 ∷ []) 2 (7 ∷ 7 ∷ 7 ∷ []) ∷
-    decode-delivery (0x04 ∷ 0x00 ∷ 0x0C ∷ 0x00 ∷ 0x00 ∷ 0x00 ∷ 0x08 ∷ 0x08 ∷ []) (7 ∷ 7 ∷ 7 ∷ 7 ∷ []) (7 ∷ 7 ∷ []) ∷
-    encode-delivery (lend (2 ∷ 3 ∷ 5 ∷ 7 ∷ []) (3 ∷ [])) (replicate 9 7) ∷
-    run-call (lend (2 ∷ 3 ∷ 5 ∷ []) (3 ∷ [])) (0x00 ∷ []) (starting 0) (3 ∷ 4 ∷ 0 ∷ 2 ∷ 3 ∷ 1 ∷ []) (2 ∷ 9 ∷ 9 ∷ 2 ∷ 2 ∷ 6 ∷ []) (replicate 7 7) ∷ []
+    unpack-expression (0x40 ∷ 0x01 ∷ []) 2 every-bit (7 ∷ 7 ∷ 7 ∷ 7 ∷ []) ∷
+    pack-expression (64 ∷ 0 ∷ 1 ∷ []) 2 every-bit (7 ∷ 7 ∷ 7 ∷ []) ∷
+    decode-delivery new-235 (7 ∷ 7 ∷ 7 ∷ 7 ∷ []) (7 ∷ 7 ∷ []) ∷
+    encode-delivery (lend (2 ∷ 3 ∷ 5 ∷ 7 ∷ []) (3 ∷ []) every-bit) (replicate 9 7) ∷
+    run-call (lend (2 ∷ 3 ∷ 5 ∷ []) (3 ∷ []) every-bit) (0x00 ∷ []) (starting 0) (3 ∷ 4 ∷ 0 ∷ 2 ∷ 3 ∷ 1 ∷ []) (2 ∷ 9 ∷ 9 ∷ 2 ∷ 2 ∷ 6 ∷ []) (replicate 7 7) ∷ []
     ≡
     record { number = 0; parts = 3 ∷ []; rows = (64 ∷ 0 ∷ 1 ∷ 7 ∷ []) ∷ [] } ∷
     record { number = 0; parts = 2 ∷ []; rows = (0x40 ∷ 0x01 ∷ 7 ∷ []) ∷ [] } ∷
-    record { number = 0; parts = 1 ∷ 3 ∷ []; rows = (2 ∷ 3 ∷ 5 ∷ 7 ∷ []) ∷ (3 ∷ 7 ∷ []) ∷ [] } ∷
-    record { number = 0; parts = 8 ∷ []; rows = (0x04 ∷ 0x00 ∷ 0x0C ∷ 0x00 ∷ 0x00 ∷ 0x00 ∷ 0x08 ∷ 0x08 ∷ 7 ∷ []) ∷ [] } ∷
+    record { number = 0; parts = 2147483648 ∷ 1 ∷ 3 ∷ []; rows = (2 ∷ 3 ∷ 5 ∷ 7 ∷ []) ∷ (3 ∷ 7 ∷ []) ∷ [] } ∷
+    record { number = 0; parts = 8 ∷ []; rows = (0x06 ∷ 0x00 ∷ 0x06 ∷ 0x00 ∷ 0x00 ∷ 0x00 ∷ 0x04 ∷ 0x04 ∷ 7 ∷ []) ∷ [] } ∷
     record {
       number = 0;
       parts = 3 ∷ 3 ∷ (replicate 47 0 ++ (4294967296 ∷ []));
@@ -354,38 +385,38 @@ gives parts rows = record { number = 0; parts = parts; rows = rows }
 
 pub record Edges : Type 0 where
   -- 7 comes before all: 0 and 33 lists, and 32 are there
-  unpack-7 : unpack-expression (0x01 ∷ []) 0 (7 ∷ []) ≡ refuses 7 1 ((7 ∷ []) ∷ [])
-  unpack-33 : unpack-expression (0x00 ∷ []) 33 (7 ∷ []) ≡ refuses 7 1 ((7 ∷ []) ∷ [])
-  unpack-31 : unpack-expression (0x3E ∷ []) 32 (7 ∷ []) ≡ gives (1 ∷ []) ((31 ∷ []) ∷ [])
-  pack-7 : pack-expression (32 ∷ []) 0 (7 ∷ []) ≡ refuses 7 1 ((7 ∷ []) ∷ [])
-  encode-7 : encode-delivery (lend [] []) [] ≡ refuses 7 1 ([] ∷ [])
+  unpack-7 : unpack-expression (0x01 ∷ []) 0 every-bit (7 ∷ []) ≡ refuses 7 1 ((7 ∷ []) ∷ [])
+  unpack-33 : unpack-expression (0x00 ∷ []) 33 every-bit (7 ∷ []) ≡ refuses 7 1 ((7 ∷ []) ∷ [])
+  unpack-31 : unpack-expression (0x3E ∷ []) 32 every-bit (7 ∷ []) ≡ gives (1 ∷ []) ((31 ∷ []) ∷ [])
+  pack-7 : pack-expression (32 ∷ []) 0 every-bit (7 ∷ []) ≡ refuses 7 1 ((7 ∷ []) ∷ [])
+  encode-7 : encode-delivery (lend [] [] every-bit) [] ≡ refuses 7 1 ([] ∷ [])
   -- an intersection of lists 0 and 1, into rows that just fit; 6 comes last, one element short
-  unpack-fits : unpack-expression (0xC8 ∷ 0x00 ∷ 0x20 ∷ []) 2 (7 ∷ 7 ∷ 7 ∷ []) ≡ gives (3 ∷ []) ((194 ∷ 0 ∷ 1 ∷ []) ∷ [])
-  unpack-short : unpack-expression (0xC8 ∷ 0x00 ∷ 0x20 ∷ []) 2 (7 ∷ 7 ∷ []) ≡ refuses 6 1 ((7 ∷ 7 ∷ []) ∷ [])
-  unpack-none : unpack-expression [] 1 [] ≡ refuses 1 1 ([] ∷ [])
-  pack-fits : pack-expression (194 ∷ 0 ∷ 1 ∷ []) 2 (7 ∷ 7 ∷ 7 ∷ []) ≡ gives (3 ∷ []) ((0xC8 ∷ 0x00 ∷ 0x20 ∷ []) ∷ [])
-  pack-bytes : pack-expression (64 ∷ 0 ∷ 1 ∷ []) 2 (7 ∷ 7 ∷ []) ≡ gives (2 ∷ []) ((0x40 ∷ 0x01 ∷ []) ∷ [])
-  pack-short : pack-expression (64 ∷ 0 ∷ 1 ∷ []) 2 (7 ∷ []) ≡ refuses 6 1 ((7 ∷ []) ∷ [])
-  encode-fits : encode-delivery (lend (2 ∷ 3 ∷ 5 ∷ []) (3 ∷ [])) (replicate 8 7) ≡ gives (8 ∷ []) ((0x04 ∷ 0x00 ∷ 0x0C ∷ 0x00 ∷ 0x00 ∷ 0x00 ∷ 0x08 ∷ 0x08 ∷ []) ∷ [])
-  encode-short : encode-delivery (lend (2 ∷ 3 ∷ 5 ∷ []) (3 ∷ [])) (replicate 7 7) ≡ refuses 6 1 (replicate 7 7 ∷ [])
+  unpack-fits : unpack-expression (0xC8 ∷ 0x00 ∷ 0x20 ∷ []) 2 every-bit (7 ∷ 7 ∷ 7 ∷ []) ≡ gives (3 ∷ []) ((194 ∷ 0 ∷ 1 ∷ []) ∷ [])
+  unpack-short : unpack-expression (0xC8 ∷ 0x00 ∷ 0x20 ∷ []) 2 every-bit (7 ∷ 7 ∷ []) ≡ refuses 6 1 ((7 ∷ 7 ∷ []) ∷ [])
+  unpack-none : unpack-expression [] 1 every-bit [] ≡ refuses 1 1 ([] ∷ [])
+  pack-fits : pack-expression (194 ∷ 0 ∷ 1 ∷ []) 2 every-bit (7 ∷ 7 ∷ 7 ∷ []) ≡ gives (3 ∷ []) ((0xC8 ∷ 0x00 ∷ 0x20 ∷ []) ∷ [])
+  pack-bytes : pack-expression (64 ∷ 0 ∷ 1 ∷ []) 2 every-bit (7 ∷ 7 ∷ []) ≡ gives (2 ∷ []) ((0x40 ∷ 0x01 ∷ []) ∷ [])
+  pack-short : pack-expression (64 ∷ 0 ∷ 1 ∷ []) 2 every-bit (7 ∷ []) ≡ refuses 6 1 ((7 ∷ []) ∷ [])
+  encode-fits : encode-delivery (lend (2 ∷ 3 ∷ 5 ∷ []) (3 ∷ []) every-bit) (replicate 8 7) ≡ gives (8 ∷ []) (new-235 ∷ [])
+  encode-short : encode-delivery (lend (2 ∷ 3 ∷ 5 ∷ []) (3 ∷ []) every-bit) (replicate 7 7) ≡ refuses 6 1 (replicate 7 7 ∷ [])
   -- a row that ends early, and a node left over
-  row-early : pack-expression (64 ∷ 0 ∷ []) 1 (7 ∷ []) ≡ refuses 1 1 ((7 ∷ []) ∷ [])
-  row-over : pack-expression (0 ∷ 0 ∷ []) 1 (7 ∷ []) ≡ refuses 5 1 ((7 ∷ []) ∷ [])
+  row-early : pack-expression (64 ∷ 0 ∷ []) 1 every-bit (7 ∷ []) ≡ refuses 1 1 ((7 ∷ []) ∷ [])
+  row-over : pack-expression (0 ∷ 0 ∷ []) 1 every-bit (7 ∷ []) ≡ refuses 5 1 ((7 ∷ []) ∷ [])
   -- an empty list is fine, an end may not pass the row, and a list may have 65,535 numbers
-  empty-lists : encode-delivery (lend [] (0 ∷ 0 ∷ [])) (replicate 5 7) ≡ gives (5 ∷ []) ((0x08 ∷ 0x00 ∷ 0x00 ∷ 0x00 ∷ 0x00 ∷ []) ∷ [])
-  end-passes : encode-delivery (lend (2 ∷ 3 ∷ []) (3 ∷ [])) [] ≡ refuses 10 1 ([] ∷ [])
+  empty-lists : encode-delivery (lend [] (0 ∷ 0 ∷ []) every-bit) (replicate 5 7) ≡ gives (5 ∷ []) ((0x0A ∷ 0x00 ∷ 0x01 ∷ 0x00 ∷ 0x00 ∷ []) ∷ [])
+  end-passes : encode-delivery (lend (2 ∷ 3 ∷ []) (3 ∷ []) every-bit) [] ≡ refuses 10 1 ([] ∷ [])
   long-lists : Lists.ends-hold 131070 0 (65535 ∷ 131070 ∷ []) ≡ true
   too-long : Lists.ends-hold 65536 0 (65536 ∷ []) ≡ false
   -- two lists read, each with its end
-  two-ends : decode-delivery (0x08 ∷ 0x00 ∷ 0x04 ∷ 0x00 ∷ 0x00 ∷ 0x00 ∷ 0x14 ∷ 0x00 ∷ 0x04 ∷ 0x00 ∷ 0x00 ∷ 0x00 ∷ 0x1C ∷ []) (9 ∷ 9 ∷ []) (9 ∷ 9 ∷ []) ≡ gives (2 ∷ 2 ∷ []) ((5 ∷ 7 ∷ []) ∷ (1 ∷ 2 ∷ []) ∷ [])
+  two-ends : decode-delivery (0x0A ∷ 0x00 ∷ 0x02 ∷ 0x00 ∷ 0x00 ∷ 0x00 ∷ 0x0B ∷ 0x00 ∷ 0x01 ∷ 0x00 ∷ 0x00 ∷ 0x00 ∷ 0x07 ∷ []) (9 ∷ 9 ∷ []) (9 ∷ 9 ∷ []) ≡ gives (3221225472 ∷ 2 ∷ 2 ∷ []) ((5 ∷ 7 ∷ []) ∷ (1 ∷ 2 ∷ []) ∷ [])
   -- a run's 50 other parts; the reply row one short; code 1 draws D itself
   fifty : run-size ≡ 50
-  replies-short : run-call (lend (5 ∷ []) (1 ∷ [])) (0x00 ∷ []) (starting 0) (0 ∷ []) (0 ∷ []) [] ≡ refuses 13 run-size ([] ∷ [])
-  at-d : run-call (lend (5 ∷ 6 ∷ []) (2 ∷ [])) (0x00 ∷ []) (starting 0) (1 ∷ []) (5 ∷ []) (7 ∷ []) ≡ gives (0 ∷ (replicate 48 0 ++ (6 ∷ []))) ((5 ∷ []) ∷ [])
+  replies-short : run-call (lend (5 ∷ []) (1 ∷ []) every-bit) (0x00 ∷ []) (starting 0) (0 ∷ []) (0 ∷ []) [] ≡ refuses 13 run-size ([] ∷ [])
+  at-d : run-call (lend (5 ∷ 6 ∷ []) (2 ∷ []) every-bit) (0x00 ∷ []) (starting 0) (1 ∷ []) (5 ∷ []) (7 ∷ []) ≡ gives (0 ∷ (replicate 48 0 ++ (6 ∷ []))) ((5 ∷ []) ∷ [])
   -- the part of a list: its place and its length; the empty part at the start where there is none, or 11 would apply
-  part-1 : Lists.span-of (lend (2 ∷ 3 ∷ 5 ∷ 7 ∷ []) (1 ∷ 3 ∷ [])) 1 ≡ record { start = 1; size = 2 }
-  part-2 : Lists.span-of (lend (2 ∷ 3 ∷ 5 ∷ 7 ∷ []) (1 ∷ 3 ∷ [])) 2 ≡ record { start = 0; size = 0 }
-  part-11 : Lists.span-of (lend (2 ∷ 3 ∷ 3 ∷ []) (1 ∷ 3 ∷ [])) 1 ≡ record { start = 0; size = 0 }
+  part-1 : Lists.span-of (lend (2 ∷ 3 ∷ 5 ∷ 7 ∷ []) (1 ∷ 3 ∷ []) every-bit) 1 ≡ record { start = 1; size = 2 }
+  part-2 : Lists.span-of (lend (2 ∷ 3 ∷ 5 ∷ 7 ∷ []) (1 ∷ 3 ∷ []) every-bit) 2 ≡ record { start = 0; size = 0 }
+  part-11 : Lists.span-of (lend (2 ∷ 3 ∷ 3 ∷ []) (1 ∷ 3 ∷ []) every-bit) 1 ≡ record { start = 0; size = 0 }
   -- the program: no length byte, an expression that is short
   no-length : listing [] ≡ refused 1
   short-expression : listing (0x05 ∷ 0x00 ∷ []) ≡ refused 1
@@ -448,17 +479,17 @@ forty-eight =
 -- that lacks one bit. 48 nodes, packed and as a row, and depth 12, packed and as a row: only the lent row is too short.
 -- 128, 137 and 192 are unknown
 pub order-expressions :
-    pack-expression (136 ∷ (eights 5 ++ replicate 2 0)) 1 sevens ∷
-    pack-expression (133 ∷ (eights 4 ++ replicate 11 129)) 1 sevens ∷
-    pack-expression (133 ∷ (eights 3 ++ (135 ∷ replicate 7 0) ++ replicate 11 129)) 1 sevens ∷
-    unpack-expression (0x84 ∷ 0x00 ∷ []) 2 sevens ∷
-    pack-expression (134 ∷ (eights 4 ++ (135 ∷ replicate 7 0) ++ (64 ∷ 0 ∷ 0 ∷ []))) 1 sevens ∷
-    unpack-expression forty-eight 1 sevens ∷
-    pack-expression (replicate 11 193 ++ (0 ∷ [])) 1 sevens ∷
-    unpack-expression (0x84 ∷ 0x21 ∷ 0x08 ∷ 0x42 ∷ 0x10 ∷ 0x84 ∷ 0x20 ∷ 0x00 ∷ []) 1 sevens ∷
-    pack-expression (128 ∷ 0 ∷ []) 1 sevens ∷
-    pack-expression (137 ∷ replicate 9 0) 1 sevens ∷
-    pack-expression (192 ∷ 0 ∷ []) 1 sevens ∷ []
+    pack-expression (136 ∷ (eights 5 ++ replicate 2 0)) 1 every-bit sevens ∷
+    pack-expression (133 ∷ (eights 4 ++ replicate 11 129)) 1 every-bit sevens ∷
+    pack-expression (133 ∷ (eights 3 ++ (135 ∷ replicate 7 0) ++ replicate 11 129)) 1 every-bit sevens ∷
+    unpack-expression (0x84 ∷ 0x00 ∷ []) 2 every-bit sevens ∷
+    pack-expression (134 ∷ (eights 4 ++ (135 ∷ replicate 7 0) ++ (64 ∷ 0 ∷ 0 ∷ []))) 1 every-bit sevens ∷
+    unpack-expression forty-eight 1 every-bit sevens ∷
+    pack-expression (replicate 11 193 ++ (0 ∷ [])) 1 every-bit sevens ∷
+    unpack-expression (0x84 ∷ 0x21 ∷ 0x08 ∷ 0x42 ∷ 0x10 ∷ 0x84 ∷ 0x20 ∷ 0x00 ∷ []) 1 every-bit sevens ∷
+    pack-expression (128 ∷ 0 ∷ []) 1 every-bit sevens ∷
+    pack-expression (137 ∷ replicate 9 0) 1 every-bit sevens ∷
+    pack-expression (192 ∷ 0 ∷ []) 1 every-bit sevens ∷ []
     ≡
     refusal 2 1 1 ∷ refusal 2 1 1 ∷ refusal 3 1 1 ∷ refusal 1 1 1 ∷ refusal 6 1 1 ∷ refusal 6 1 1 ∷ refusal 6 1 1 ∷ refusal 6 1 1 ∷ refusal 14 1 1 ∷
     refusal 14 1 1 ∷ refusal 14 1 1 ∷ []
@@ -473,26 +504,26 @@ largest-row = 136 ∷ 200 ∷ (replicate 7 0 ++ (31 ∷ replicate 7 0))
 abbrev largest-packed : List ℕ
 largest-packed = 0xBF ∷ 0xC0 ∷ (replicate 5 0 ++ (0x07 ∷ 0xC0 ∷ replicate 6 0))
 
-pub order-largest : pack-expression largest-row 32 (replicate 15 7) ∷ unpack-expression largest-packed 32 (replicate 17 7) ∷ [] ≡ gives (15 ∷ []) (largest-packed ∷ []) ∷ gives (17 ∷ []) (largest-row ∷ []) ∷ []
+pub order-largest : pack-expression largest-row 32 every-bit (replicate 15 7) ∷ unpack-expression largest-packed 32 every-bit (replicate 17 7) ∷ [] ≡ gives (15 ∷ []) (largest-packed ∷ []) ∷ gives (17 ∷ []) (largest-row ∷ []) ∷ []
 unfolding computes
 order-largest = refl
 
 -- "8 at the gap", before the next gap's bits run out; "6 for the numbers once its count is read", before 1, and over all
 -- lists; 7 before "6 for the ends row"; "finally 5"
 pub order-deliveries :
-    decode-delivery (0x04 ∷ 0x00 ∷ 0x0F ∷ 0xFF ∷ 0xFF ∷ 0xFF ∷ 0xFC ∷ 0x40 ∷ []) (replicate 3 7) (7 ∷ []) ∷
-    decode-delivery (0x04 ∷ 0x00 ∷ 0x0C ∷ []) sevens sevens ∷
-    decode-delivery (0x08 ∷ 0x00 ∷ 0x04 ∷ 0x00 ∷ 0x00 ∷ 0x00 ∷ 0x04 ∷ 0x00 ∷ 0x04 ∷ []) (7 ∷ []) sevens ∷
+    decode-delivery (0x06 ∷ 0x00 ∷ 0x07 ∷ 0xFF ∷ 0xFF ∷ 0xFF ∷ 0xFE ∷ 0x20 ∷ []) (replicate 3 7) (7 ∷ []) ∷
+    decode-delivery (0x06 ∷ 0x00 ∷ 0x06 ∷ []) sevens sevens ∷
+    decode-delivery (0x0A ∷ 0x00 ∷ 0x02 ∷ 0x00 ∷ 0x00 ∷ 0x00 ∷ 0x03 ∷ 0x00 ∷ 0x01 ∷ []) (7 ∷ []) sevens ∷
     decode-delivery (0x84 ∷ []) sevens sevens ∷
-    decode-delivery (0x04 ∷ 0x00 ∷ 0x01 ∷ []) sevens sevens ∷
-    encode-delivery (lend [] (1 ∷ replicate 32 0)) sevens ∷
-    encode-delivery (lend (5 ∷ 5 ∷ []) (2 ∷ 1 ∷ [])) sevens ∷ []
+    decode-delivery (0x06 ∷ 0x00 ∷ 0x01 ∷ []) sevens sevens ∷
+    encode-delivery (lend [] (1 ∷ replicate 32 0) every-bit) sevens ∷
+    encode-delivery (lend (5 ∷ 5 ∷ []) (2 ∷ 1 ∷ []) every-bit) sevens ∷ []
     ≡
-    refuses 8 2 (replicate 3 7 ∷ (7 ∷ []) ∷ []) ∷
-    refusal 6 2 2 ∷
-    refuses 6 2 ((7 ∷ []) ∷ sevens ∷ []) ∷
-    refusal 7 2 2 ∷
-    refusal 5 2 2 ∷
+    refuses 8 3 (replicate 3 7 ∷ (7 ∷ []) ∷ []) ∷
+    refusal 6 3 2 ∷
+    refuses 6 3 ((7 ∷ []) ∷ sevens ∷ []) ∷
+    refusal 7 3 2 ∷
+    refusal 5 3 2 ∷
     refusal 7 1 1 ∷
     refusal 10 1 1 ∷ []
 unfolding computes
@@ -506,12 +537,12 @@ order-stored = refl
 -- a run: "lists [..], the packed expression [..], bookmark (12), row lengths (13)"; more numbers than codes; a list number
 -- that is not there; and one empty list, drawn
 pub order-runs :
-    run-call (lend (5 ∷ 5 ∷ []) (2 ∷ [])) [] (starting 0) [] [] sevens ∷
-    run-call (lend (5 ∷ []) (1 ∷ [])) [] (starting 4294967297) [] [] sevens ∷
-    run-call (lend (5 ∷ []) (1 ∷ [])) (0x00 ∷ []) (starting 4294967297) (0 ∷ []) [] sevens ∷
-    run-call (lend (5 ∷ []) (1 ∷ [])) (0x00 ∷ []) (starting 0) [] (0 ∷ []) sevens ∷
-    run-call (lend (5 ∷ []) (1 ∷ [])) (0x02 ∷ []) (starting 0) [] [] sevens ∷
-    run-call (lend [] (0 ∷ [])) (0x00 ∷ []) (starting 0) (0 ∷ []) (0 ∷ []) sevens ∷ []
+    run-call (lend (5 ∷ 5 ∷ []) (2 ∷ []) every-bit) [] (starting 0) [] [] sevens ∷
+    run-call (lend (5 ∷ []) (1 ∷ []) every-bit) [] (starting 4294967297) [] [] sevens ∷
+    run-call (lend (5 ∷ []) (1 ∷ []) every-bit) (0x00 ∷ []) (starting 4294967297) (0 ∷ []) [] sevens ∷
+    run-call (lend (5 ∷ []) (1 ∷ []) every-bit) (0x00 ∷ []) (starting 0) [] (0 ∷ []) sevens ∷
+    run-call (lend (5 ∷ []) (1 ∷ []) every-bit) (0x02 ∷ []) (starting 0) [] [] sevens ∷
+    run-call (lend [] (0 ∷ []) every-bit) (0x00 ∷ []) (starting 0) (0 ∷ []) (0 ∷ []) sevens ∷ []
     ≡
     refusal 11 run-size 1 ∷ refusal 1 run-size 1 ∷ refusal 12 run-size 1 ∷ refusal 13 run-size 1 ∷ refusal 4 run-size 1 ∷
     record { number = 0; parts = replicate 49 0 ++ (4294967296 ∷ []); rows = (4294967298 ∷ 7 ∷ []) ∷ [] } ∷ []
@@ -560,8 +591,8 @@ order-moves = refl
 -- the program: its whole size first, 65,536 bytes; "then the delivery, then the expression"; 4,096 numbers
 -- and 32 lists are read on until bits run out, 4,097 numbers are not; a list number that is not there
 pub order-listings :
-    map listing (replicate 65536 0 ∷ (0x00 ∷ 0x00 ∷ []) ∷ (0x01 ∷ 0x00 ∷ 0x04 ∷ 0x40 ∷ 0x00 ∷ []) ∷ (0x01 ∷ 0x00 ∷ 0x04 ∷ 0x40 ∷ 0x04 ∷ []) ∷
-    (0x01 ∷ 0x00 ∷ 0x80 ∷ []) ∷ (0x01 ∷ 0x02 ∷ 0x04 ∷ 0x00 ∷ 0x00 ∷ []) ∷ [])
+    map listing (replicate 65536 0 ∷ (0x00 ∷ 0x00 ∷ []) ∷ (0x01 ∷ 0x00 ∷ 0x06 ∷ 0x20 ∷ 0x00 ∷ []) ∷ (0x01 ∷ 0x00 ∷ 0x06 ∷ 0x20 ∷ 0x02 ∷ []) ∷
+    (0x01 ∷ 0x00 ∷ 0x82 ∷ []) ∷ (0x01 ∷ 0x02 ∷ 0x06 ∷ 0x00 ∷ 0x00 ∷ []) ∷ [])
     ≡ map refused (6 ∷ 7 ∷ 1 ∷ 6 ∷ 1 ∷ 4 ∷ [])
 unfolding computes
 order-listings = refl
@@ -590,10 +621,10 @@ pub record Shown : Type 0 where
   pub count : ℕ
 
 abbrev pub shown-two : List ℕ → List ℕ → List ℕ → ℕ → Shown
-shown-two numbers ends kept count = record { lent = lend numbers ends; expression = 0x40 ∷ 0x01 ∷ []; kept = kept; count = count }
+shown-two numbers ends kept count = record { lent = lend numbers ends every-bit; expression = 0x40 ∷ 0x01 ∷ []; kept = kept; count = count }
 
 abbrev pub shown-one : List ℕ → List ℕ → List ℕ → ℕ → Shown
-shown-one numbers ends kept count = record { lent = lend numbers ends; expression = 0x00 ∷ []; kept = kept; count = count }
+shown-one numbers ends kept count = record { lent = lend numbers ends every-bit; expression = 0x00 ∷ []; kept = kept; count = count }
 
 abbrev pub changes : Shown → Change → Sent
 changes h c = update (h .lent) (h .expression) c (h .kept) (h .count)
@@ -682,8 +713,8 @@ update-longest = refl
 -- tests"; then 4 before 17, "in the order 17, 15, 16, then 6"
 abbrev order-ones : List Refused-update
 order-ones =
-    refuses-update 11 (record { lent = lend (5 ∷ 5 ∷ []) (2 ∷ []); expression = []; kept = []; count = 1 }) (change 1 5 1) ∷
-    refuses-update 5 (record { lent = lend (5 ∷ []) (1 ∷ []); expression = 0x01 ∷ []; kept = []; count = 1 }) (change 1 5 1) ∷
+    refuses-update 11 (record { lent = lend (5 ∷ 5 ∷ []) (2 ∷ []) every-bit; expression = []; kept = []; count = 1 }) (change 1 5 1) ∷
+    refuses-update 5 (record { lent = lend (5 ∷ []) (1 ∷ []) every-bit; expression = 0x01 ∷ []; kept = []; count = 1 }) (change 1 5 1) ∷
     refuses-update 4 (shown-one (5 ∷ []) (1 ∷ []) (5 ∷ []) 0) (change 1 5 1) ∷
     refuses-update 17 (shown-one (5 ∷ []) (1 ∷ []) (5 ∷ []) 0) (change 0 5 1) ∷
     refuses-update 17 (shown-one (5 ∷ []) (1 ∷ []) (5 ∷ []) 0) (change 0 4 1) ∷
@@ -692,3 +723,311 @@ order-ones =
 pub order-updates : Refused-updates order-ones
 unfolding computes
 order-updates = refl
+
+-- ---- request Two: a list that didn't come. Words in hexadecimal: 0x80000000 is list 0 alone, 0x40000000 list 1,
+-- 0x00000001 list 31
+
+-- "list 0 in its most significant bit", and so list 31 in the least; in calls: list 0, and list 31, with a word of that list
+-- alone and one that lacks that list alone
+pub word-bits :
+    map (Lists.delivered 0x80000000) (0 ∷ 1 ∷ 31 ∷ 32 ∷ []) ++ map (Lists.delivered 0x40000000) (0 ∷ 1 ∷ 2 ∷ []) ++ map (Lists.delivered 0x00000001) (0 ∷ 30 ∷ 31 ∷ [])
+    ≡ (true ∷ false ∷ false ∷ false ∷ []) ++ (false ∷ true ∷ false ∷ []) ++ (false ∷ false ∷ true ∷ [])
+unfolding computes
+word-bits = refl
+
+pub word-ends :
+    map (λ word. unpack-expression (0x00 ∷ []) 32 word sevens) (0x80000000 ∷ 0x7FFFFFFF ∷ []) ++
+    map (λ word. unpack-expression (0x3E ∷ []) 32 word sevens) (0x00000001 ∷ 0xFFFFFFFE ∷ [])
+    ≡ gives (1 ∷ []) ((0 ∷ 7 ∷ []) ∷ []) ∷ refusal 18 1 1 ∷ gives (1 ∷ []) ((31 ∷ 7 ∷ []) ∷ []) ∷ refusal 18 1 1 ∷ []
+unfolding computes
+word-ends = refl
+
+-- "tells an empty list from one that failed to run": 04 is one list that was not delivered, 06 00 00 one that came empty; read
+-- and written
+pub empty-or-not :
+    decode-delivery (0x04 ∷ []) [] sevens ∷
+    decode-delivery (0x06 ∷ 0x00 ∷ 0x00 ∷ []) [] sevens ∷
+    encode-delivery (lend [] (0 ∷ []) 0x00000000) (replicate 4 7) ∷
+    encode-delivery (lend [] (0 ∷ []) 0x80000000) (replicate 4 7) ∷ []
+    ≡
+    gives (0x00000000 ∷ 1 ∷ 0 ∷ []) ([] ∷ (0 ∷ 7 ∷ []) ∷ []) ∷
+    gives (0x80000000 ∷ 1 ∷ 0 ∷ []) ([] ∷ (0 ∷ 7 ∷ []) ∷ []) ∷
+    gives (1 ∷ []) ((0x04 ∷ 7 ∷ 7 ∷ 7 ∷ []) ∷ []) ∷
+    gives (3 ∷ []) ((0x06 ∷ 0x00 ∷ 0x00 ∷ 7 ∷ []) ∷ []) ∷ []
+unfolding computes
+empty-or-not = refl
+
+-- bits of lists that are not there are "ignored elsewhere": one undelivered list, one that came, and P8, with those bits 1 and 0
+pub bits-ignored :
+    map (λ word. encode-delivery (lend [] (0 ∷ []) word) (7 ∷ [])) (0x00000000 ∷ 0x7FFFFFFF ∷ []) ++
+    map (λ word. encode-delivery (lend (2 ∷ 3 ∷ 5 ∷ []) (3 ∷ []) word) (replicate 8 7)) (0x80000000 ∷ 0xFFFFFFFF ∷ []) ++
+    map (λ word. unpack-expression (0x40 ∷ 0x01 ∷ []) 2 word (7 ∷ 7 ∷ 7 ∷ [])) (0xC0000000 ∷ 0xFFFFFFFF ∷ [])
+    ≡
+    replicate 2 (gives (1 ∷ []) ((0x04 ∷ []) ∷ [])) ++
+    replicate 2 (gives (8 ∷ []) (new-235 ∷ [])) ++
+    replicate 2 (gives (3 ∷ []) ((64 ∷ 0 ∷ 1 ∷ []) ∷ []))
+unfolding computes
+bits-ignored = refl
+
+-- the lists 2, and 5, and an undelivered one between them
+abbrev two-of-three : List ℕ
+two-of-three = 0x0E ∷ 0x00 ∷ 0x02 ∷ 0x00 ∷ 0x00 ∷ 0x00 ∷ 0x04 ∷ 0x80 ∷ 0x00 ∷ 0x80 ∷ 0x00 ∷ 0x00 ∷ 0x02 ∷ 0x80 ∷ []
+
+-- an undelivered list, 2 3 5, and an undelivered one
+abbrev one-of-three : List ℕ
+one-of-three = 0x0D ∷ 0x00 ∷ 0x03 ∷ 0x00 ∷ 0x00 ∷ 0x00 ∷ 0x02 ∷ 0x02 ∷ []
+
+-- "after 0 nothing more for that list": the next list's bit; the two above written and read, the second into rows that just
+-- fit. Bits for lists that are not there "are 0 in every word handed back"; of 32 lists the first alone came, and the last
+pub some-delivered :
+    encode-delivery (lend (2 ∷ 5 ∷ 7 ∷ []) (1 ∷ 1 ∷ 2 ∷ []) 0xBFFFFFFF) (replicate 15 7) ∷
+    encode-delivery (lend (2 ∷ 3 ∷ 5 ∷ []) (0 ∷ 3 ∷ 3 ∷ []) 0x40000000) (replicate 8 7) ∷
+    decode-delivery two-of-three (7 ∷ 7 ∷ 7 ∷ []) (7 ∷ 7 ∷ 7 ∷ 7 ∷ []) ∷
+    decode-delivery one-of-three (7 ∷ 7 ∷ 7 ∷ []) (7 ∷ 7 ∷ 7 ∷ []) ∷
+    decode-delivery (0x82 ∷ replicate 6 0x00) [] (replicate 32 7) ∷
+    decode-delivery (0x80 ∷ 0x00 ∷ 0x00 ∷ 0x00 ∷ 0x04 ∷ 0x00 ∷ 0x00 ∷ []) [] (replicate 32 7) ∷ []
+    ≡
+    gives (14 ∷ []) ((two-of-three ++ (7 ∷ [])) ∷ []) ∷
+    gives (8 ∷ []) (one-of-three ∷ []) ∷
+    gives (0xA0000000 ∷ 3 ∷ 2 ∷ []) ((2 ∷ 5 ∷ 7 ∷ []) ∷ (1 ∷ 1 ∷ 2 ∷ 7 ∷ []) ∷ []) ∷
+    gives (0x40000000 ∷ 3 ∷ 3 ∷ []) ((2 ∷ 3 ∷ 5 ∷ []) ∷ (0 ∷ 3 ∷ 3 ∷ []) ∷ []) ∷
+    gives (0x80000000 ∷ 32 ∷ 0 ∷ []) ([] ∷ replicate 32 0 ∷ []) ∷
+    gives (0x00000001 ∷ 32 ∷ 0 ∷ []) ([] ∷ replicate 32 0 ∷ []) ∷ []
+unfolding computes
+some-delivered = refl
+
+-- the new form's order: "1 wherever bits run out", at the third list's bit, in a count, and behind one that has room; "6 for
+-- the numbers once its count is read" behind an undelivered list, which itself takes no room; "6 for the ends row" for
+-- undelivered lists too; behind bit 0 a whole byte left over, and a fill bit of 1
+pub order-new-form :
+    decode-delivery (0x0C ∷ []) [] (replicate 3 7) ∷
+    decode-delivery (0x06 ∷ 0x00 ∷ []) [] (7 ∷ []) ∷
+    decode-delivery (0x06 ∷ 0x00 ∷ 0x06 ∷ []) (replicate 3 7) (7 ∷ []) ∷
+    decode-delivery (0x09 ∷ 0x00 ∷ 0x01 ∷ []) [] sevens ∷
+    decode-delivery (0x08 ∷ []) [] (7 ∷ []) ∷
+    decode-delivery (0x08 ∷ []) [] sevens ∷
+    decode-delivery (0x04 ∷ 0x00 ∷ []) sevens sevens ∷
+    decode-delivery (0x05 ∷ []) sevens sevens ∷ []
+    ≡
+    refuses 1 3 ([] ∷ replicate 3 7 ∷ []) ∷
+    refuses 1 3 ([] ∷ (7 ∷ []) ∷ []) ∷
+    refuses 1 3 (replicate 3 7 ∷ (7 ∷ []) ∷ []) ∷
+    refuses 6 3 ([] ∷ sevens ∷ []) ∷
+    refuses 6 3 ([] ∷ (7 ∷ []) ∷ []) ∷
+    gives (0x00000000 ∷ 2 ∷ 0 ∷ []) ([] ∷ (0 ∷ 0 ∷ []) ∷ []) ∷
+    refusal 5 3 2 ∷
+    refusal 5 3 2 ∷ []
+unfolding computes
+order-new-form = refl
+
+-- the same where no row is lent: 1 in the bit and behind a count; a list that came, and one that did not
+pub order-stored-new :
+    map (read-stored by-bit) ((0x0C ∷ []) ∷ (0x06 ∷ 0x00 ∷ 0x06 ∷ []) ∷ new-235 ∷ (0x04 ∷ []) ∷ one-of-three ∷ [])
+    ≡
+    refused 1 ∷ refused 1 ∷ accepted (came (2 ∷ 3 ∷ 5 ∷ []) ∷ []) ∷ accepted (undelivered ∷ []) ∷
+    accepted (undelivered ∷ came (2 ∷ 3 ∷ 5 ∷ []) ∷ undelivered ∷ []) ∷ []
+unfolding computes
+order-stored-new = refl
+
+-- "a word that contradicts this is sent back as 10": 5 in a list that was not delivered, and in the second of two; ahead of
+-- 11, and of the expression's own; 7 ahead of it; where start and end are equal the word says nothing wrong
+abbrev contradicting : Lent
+contradicting = lend (2 ∷ 5 ∷ []) (1 ∷ 2 ∷ []) 0x80000000
+
+pub order-word :
+    encode-delivery (lend (5 ∷ []) (1 ∷ []) 0x7FFFFFFF) sevens ∷
+    encode-delivery contradicting sevens ∷
+    encode-delivery (lend (5 ∷ 5 ∷ []) (2 ∷ []) 0x00000000) sevens ∷
+    encode-delivery (lend (5 ∷ []) (replicate 33 1) 0x00000000) sevens ∷
+    encode-delivery (lend (5 ∷ []) (1 ∷ 1 ∷ []) 0x80000000) [] ∷
+    run-call contradicting [] (starting 0) [] [] sevens ∷
+    update contradicting (0x00 ∷ []) (change 1 6 1) sevens 0 ∷ []
+    ≡
+    refusal 10 1 1 ∷
+    refusal 10 1 1 ∷
+    refusal 10 1 1 ∷
+    refusal 7 1 1 ∷
+    refuses 6 1 ([] ∷ []) ∷
+    refusal 10 run-size 1 ∷
+    updated 10 (2 ∷ 5 ∷ []) (1 ∷ 2 ∷ []) sevens 0 ∷ []
+unfolding computes
+order-word = refl
+
+-- the part of a list: where the word contradicts, the empty one at the start; an undelivered list has the empty part at its
+-- own place, in the middle and last; the list behind one
+pub parts-by-word :
+    map (Lists.span-of contradicting) (0 ∷ 1 ∷ []) ++
+    map (Lists.span-of (lend (2 ∷ 3 ∷ 5 ∷ []) (1 ∷ 1 ∷ 3 ∷ 3 ∷ []) 0xA0000000)) (1 ∷ 2 ∷ 3 ∷ [])
+    ≡
+    replicate 2 (record { start = 0; size = 0 }) ++
+    (record { start = 1; size = 0 } ∷ record { start = 1; size = 2 } ∷ record { start = 3; size = 0 } ∷ [])
+unfolding computes
+parts-by-word = refl
+
+-- 18 for an undelivered list alone, and as the second and the first of two, packed and as a row; in a run; and where the
+-- expression does not name it, none
+pub undelivered-leaves :
+    unpack-expression (0x00 ∷ []) 1 0x00000000 sevens ∷
+    unpack-expression (0x40 ∷ 0x01 ∷ []) 2 0x80000000 sevens ∷
+    pack-expression (0 ∷ []) 1 0x00000000 sevens ∷
+    pack-expression (64 ∷ 0 ∷ 1 ∷ []) 2 0x40000000 sevens ∷
+    run-call (lend [] (0 ∷ []) 0x00000000) (0x00 ∷ []) (starting 0) (0 ∷ []) (0 ∷ []) sevens ∷
+    unpack-expression (0x02 ∷ []) 2 0x40000000 sevens ∷
+    pack-expression (0 ∷ []) 2 0x80000000 sevens ∷
+    run-call (lend (5 ∷ []) (0 ∷ 1 ∷ []) 0x40000000) (0x02 ∷ []) (starting 0) (0 ∷ []) (0 ∷ []) sevens ∷ []
+    ≡
+    refusal 18 1 1 ∷ refusal 18 1 1 ∷ refusal 18 1 1 ∷ refusal 18 1 1 ∷
+    refusal 18 run-size 1 ∷
+    gives (1 ∷ []) ((1 ∷ 7 ∷ []) ∷ []) ∷
+    gives (1 ∷ []) ((0x00 ∷ 7 ∷ []) ∷ []) ∷
+    gives (0 ∷ (replicate 48 0 ++ (6 ∷ []))) ((5 ∷ 7 ∷ []) ∷ []) ∷ []
+unfolding computes
+undelivered-leaves = refl
+
+-- 18 "straight after 4": a list that is not there and whose bit is 0; then by the order of the nodes, list 0 undelivered and
+-- list 1 not there. 5, a fill bit of 1 and a node left over, and 6 come behind; 7 comes before
+pub order-leaves :
+    map (λ bytes. unpack-expression bytes 1 0x80000000 sevens) ((0x02 ∷ []) ∷ []) ++
+    map (λ bytes. unpack-expression bytes 1 0x00000000 sevens) ((0x02 ∷ []) ∷ (0x40 ∷ 0x01 ∷ []) ∷ (0x40 ∷ 0x80 ∷ []) ∷ (0x01 ∷ []) ∷ (0x00 ∷ 0x00 ∷ []) ∷ []) ++
+    map (λ row. pack-expression row 1 0x00000000 sevens) ((1 ∷ []) ∷ (64 ∷ 0 ∷ 1 ∷ []) ∷ (64 ∷ 1 ∷ 0 ∷ []) ∷ (0 ∷ 0 ∷ []) ∷ []) ++
+    (unpack-expression (0x00 ∷ []) 1 0x00000000 [] ∷ pack-expression (0 ∷ []) 1 0x00000000 [] ∷ []) ++
+    map (λ lists. unpack-expression (0x00 ∷ []) lists 0x00000000 sevens) (0 ∷ 33 ∷ []) ++
+    map (λ lists. pack-expression (0 ∷ []) lists 0x00000000 sevens) (0 ∷ 33 ∷ [])
+    ≡
+    (refusal 4 1 1 ∷ []) ++
+    (refusal 4 1 1 ∷ refusal 18 1 1 ∷ refusal 4 1 1 ∷ refusal 18 1 1 ∷ refusal 18 1 1 ∷ []) ++
+    (refusal 4 1 1 ∷ refusal 18 1 1 ∷ refusal 4 1 1 ∷ refusal 18 1 1 ∷ []) ++
+    replicate 2 (refuses 18 1 ([] ∷ [])) ++
+    replicate 4 (refusal 7 1 1)
+unfolding computes
+order-leaves = refl
+
+-- "At each node: 2, 3, 1 [..]", of two lists the second undelivered. It is the 49th node, and the 48th; a node of depth 13, and
+-- of depth 12; behind a node of depth 13, and ahead of one
+pub order-nodes :
+    map (λ row. pack-expression row 2 0x80000000 sevens)
+    ((136 ∷ (eights 5 ++ (0 ∷ 0 ∷ 1 ∷ []))) ∷ (136 ∷ (eights 5 ++ (0 ∷ 1 ∷ 0 ∷ []))) ∷ (replicate 12 193 ++ (1 ∷ [])) ∷ (replicate 11 193 ++ (1 ∷ [])) ∷
+    (64 ∷ (replicate 12 193 ++ (0 ∷ 1 ∷ []))) ∷ (64 ∷ 1 ∷ (replicate 12 193 ++ (0 ∷ []))) ∷ [])
+    ≡ refusal 2 1 1 ∷ refusal 18 1 1 ∷ refusal 3 1 1 ∷ refusal 18 1 1 ∷ refusal 3 1 1 ∷ refusal 18 1 1 ∷ []
+unfolding computes
+order-nodes = refl
+
+-- the bits run out in an undelivered leaf's number, and behind it; the row ends behind it; an unknown byte ahead of it, and
+-- behind it; 3 in the table's bytes
+pub order-early :
+    map (λ bytes. unpack-expression bytes 1 0x00000000 sevens)
+    ((0x40 ∷ []) ∷ (0x90 ∷ 0x00 ∷ []) ∷ (0x84 ∷ 0x21 ∷ 0x08 ∷ 0x42 ∷ 0x10 ∷ 0x84 ∷ 0x21 ∷ 0x00 ∷ 0x00 ∷ []) ∷ []) ++
+    map (λ row. pack-expression row 1 0x00000000 sevens) ((64 ∷ []) ∷ (64 ∷ 0 ∷ []) ∷ (64 ∷ 32 ∷ 0 ∷ []) ∷ (64 ∷ 0 ∷ 32 ∷ []) ∷ [])
+    ≡
+    (refusal 1 1 1 ∷ refusal 18 1 1 ∷ refusal 3 1 1 ∷ []) ++
+    (refusal 1 1 1 ∷ refusal 18 1 1 ∷ refusal 14 1 1 ∷ refusal 18 1 1 ∷ [])
+unfolding computes
+order-early = refl
+
+-- a run: 11 before the expression's 18, that before 12 and 13
+pub order-undelivered :
+    run-call (lend (5 ∷ 5 ∷ []) (2 ∷ 2 ∷ []) 0x80000000) (0x02 ∷ []) (starting 0) [] [] sevens ∷
+    run-call (lend (5 ∷ []) (1 ∷ 1 ∷ []) 0x80000000) (0x02 ∷ []) (starting 4294967297) (0 ∷ []) [] sevens ∷ []
+    ≡ refusal 11 run-size 1 ∷ refusal 18 run-size 1 ∷ []
+unfolding computes
+order-undelivered = refl
+
+-- One's call, over the list 5 and an undelivered one behind it
+abbrev shown-beside : ℕ → List ℕ → ℕ → Shown
+shown-beside word expression count = record { lent = lend (5 ∷ 7 ∷ []) (1 ∷ 1 ∷ []) word; expression = expression; kept = 5 ∷ 7 ∷ []; count = count }
+
+-- a number comes to the first list: the undelivered one moves on, and stays one
+pub updates-beside : changes (shown-beside 0x80000000 (0x00 ∷ []) 1) (change 0 6 1) ≡ updated 0 (5 ∷ 6 ∷ []) (2 ∷ 2 ∷ []) (5 ∷ 6 ∷ []) 2
+unfolding computes
+updates-beside = refl
+
+-- "gives 18 for an undelivered list k too, straight after its 4", adding and removing; 4 where no list k is there, with its bit
+-- 0 and 1, and where no bit is; 18 before 17; the expression's own 18, and its 5, before 4 and 18 for list k; 10 before all
+abbrev undelivered-updates : List Refused-update
+undelivered-updates =
+    refuses-update 18 (shown-beside 0x80000000 (0x00 ∷ []) 1) (change 1 6 1) ∷
+    refuses-update 18 (shown-beside 0x80000000 (0x00 ∷ []) 1) (change 1 6 0) ∷
+    refuses-update 4 (shown-beside 0x80000000 (0x00 ∷ []) 1) (change 2 6 1) ∷
+    refuses-update 4 (shown-beside 0xBFFFFFFF (0x00 ∷ []) 1) (change 2 6 1) ∷
+    refuses-update 4 (shown-beside 0x80000000 (0x00 ∷ []) 0) (change 32 6 1) ∷
+    refuses-update 18 (shown-beside 0x80000000 (0x00 ∷ []) 0) (change 1 6 1) ∷
+    refuses-update 18 (shown-beside 0x80000000 (0x02 ∷ []) 0) (change 2 6 1) ∷
+    refuses-update 5 (shown-beside 0x80000000 (0x01 ∷ []) 1) (change 1 6 1) ∷
+    refuses-update 10 (shown-beside 0x00000000 (0x00 ∷ []) 1) (change 1 6 1) ∷ []
+
+pub order-updates-18 : Refused-updates undelivered-updates
+unfolding computes
+order-updates-18 = refl
+
+-- "Stored deliveries move to the new form, all lists delivered, and back": P9, the list 2 3 5 and an empty one, and an
+-- empty one between 5 7 and 9, old and new
+abbrev moved : List (List ℕ × List ℕ)
+moved =
+    (old-235, new-235) ∷
+    (0x04 ∷ 0x00 ∷ 0x00 ∷ [], 0x06 ∷ 0x00 ∷ 0x00 ∷ []) ∷
+    (0x08 ∷ 0x00 ∷ 0x0C ∷ 0x00 ∷ 0x00 ∷ 0x00 ∷ 0x08 ∷ 0x08 ∷ 0x00 ∷ 0x00 ∷ [], 0x0A ∷ 0x00 ∷ 0x06 ∷ 0x00 ∷ 0x00 ∷ 0x00 ∷ 0x04 ∷ 0x06 ∷ 0x00 ∷ 0x00 ∷ []) ∷ (
+      0x0C ∷ 0x00 ∷ 0x08 ∷ 0x00 ∷ 0x00 ∷ 0x00 ∷ 0x14 ∷ 0x10 ∷ 0x00 ∷ 0x00 ∷ 0x00 ∷ 0x10 ∷ 0x00 ∷ 0x00 ∷ 0x00 ∷ 0x90 ∷ [],
+      0x0E ∷ 0x00 ∷ 0x04 ∷ 0x00 ∷ 0x00 ∷ 0x00 ∷ 0x0A ∷ 0x0C ∷ 0x00 ∷ 0x02 ∷ 0x00 ∷ 0x02 ∷ 0x00 ∷ 0x00 ∷ 0x00 ∷ 0x12 ∷ [],
+    ) ∷ []
+
+-- with two elements behind the written ones
+pub both-moves :
+    map (λ m. upgrade-delivery (m .0) (replicate (length (m .1) + 2) 7)) moved ++ map (λ m. downgrade-delivery (m .1) (replicate (length (m .0) + 2) 7)) moved
+    ≡ map (λ m. gives (length (m .1) ∷ []) ((m .1 ++ sevens) ∷ [])) moved ++ map (λ m. gives (length (m .0) ∷ []) ((m .0 ++ sevens) ∷ [])) moved
+unfolding computes
+both-moves = refl
+
+-- three empty lists: 7 bytes, and 8 with a bit for each
+abbrev old-empty : List ℕ
+old-empty = 0x0C ∷ replicate 6 0x00
+
+abbrev new-empty : List ℕ
+new-empty = 0x0E ∷ 0x00 ∷ 0x01 ∷ 0x00 ∷ 0x00 ∷ 0x80 ∷ 0x00 ∷ 0x00 ∷ []
+
+-- "and 6 last": rows that just fit, and one byte short
+pub moves-fit :
+    upgrade-delivery old-empty (replicate 8 7) ∷ upgrade-delivery old-empty (replicate 7 7) ∷ downgrade-delivery new-empty (replicate 7 7) ∷
+    downgrade-delivery new-empty (replicate 6 7) ∷ encode-delivery (lend [] (0 ∷ 0 ∷ 0 ∷ []) 0xE0000000) (replicate 7 7) ∷ []
+    ≡
+    gives (8 ∷ []) (new-empty ∷ []) ∷ refuses 6 1 (replicate 7 7 ∷ []) ∷ gives (7 ∷ []) (old-empty ∷ []) ∷
+    refuses 6 1 (replicate 6 7 ∷ []) ∷ refuses 6 1 (replicate 7 7 ∷ []) ∷ []
+unfolding computes
+moves-fit = refl
+
+-- "both moves make the reading's own tests bar 6 first": of the old form, with no byte lent, 1 with none and behind a count, 7,
+-- 8, 9, and 5; Two's form is none of it, its bit and count being a count of 32,769
+pub order-upgrades :
+    map (λ bytes. upgrade-delivery bytes []) ([] ∷ (0x04 ∷ 0x00 ∷ 0x0C ∷ []) ∷ old-7 ∷ (0x84 ∷ []) ∷ old-8 ∷ old-9 ∷ (0x04 ∷ 0x00 ∷ 0x01 ∷ []) ∷ new-235 ∷ [])
+    ≡ map (λ n. refuses n 1 ([] ∷ [])) (1 ∷ 1 ∷ 7 ∷ 7 ∷ 8 ∷ 9 ∷ 5 ∷ 1 ∷ [])
+unfolding computes
+order-upgrades = refl
+
+-- "19 moving back with any list undelivered", before 6: one list, the first of two, the second of two, behind 2 3 5
+pub moves-refused :
+    map (λ bytes. downgrade-delivery bytes sevens) ((0x04 ∷ []) ∷ (0x09 ∷ 0x00 ∷ 0x00 ∷ []) ∷ (0x0A ∷ 0x00 ∷ 0x00 ∷ []) ∷ (0x0A ∷ 0x00 ∷ 0x06 ∷ 0x00 ∷ 0x00 ∷ 0x00 ∷ 0x04 ∷ 0x04 ∷ []) ∷ []) ++
+    (downgrade-delivery (0x04 ∷ []) [] ∷ []) ≡ replicate 4 (refusal 19 1 1) ++ (refuses 19 1 ([] ∷ []) ∷ [])
+unfolding computes
+moves-refused = refl
+
+-- Two's form ahead of 19: 7; behind an undelivered list 1 in a count, 8 and 9, a fill bit of 1 and a byte left over; and the
+-- old form is none of it: one undelivered list, and bytes left over
+pub order-downgrades :
+    map (λ bytes. downgrade-delivery bytes [])
+    ((0x00 ∷ []) ∷ (0x09 ∷ []) ∷ (0x09 ∷ 0x00 ∷ 0x02 ∷ 0xFF ∷ 0xFF ∷ 0xFF ∷ 0xFF ∷ 0x00 ∷ []) ∷ (0x09 ∷ 0x00 ∷ 0x02 ∷ 0x00 ∷ 0x00 ∷ 0x00 ∷ 0x02 ∷ 0x08 ∷ []) ∷
+    (0x05 ∷ []) ∷ (0x04 ∷ 0x00 ∷ []) ∷ old-235 ∷ [])
+    ≡ map (λ n. refuses n 1 ([] ∷ [])) (7 ∷ 1 ∷ 8 ∷ 9 ∷ 5 ∷ 5 ∷ 5 ∷ [])
+unfolding computes
+order-downgrades = refl
+
+-- the program: 18, "then the delivery, then the expression" so that 5 comes before it, 4 and 18 by the order of the nodes; the
+-- old form is not read; an undelivered list that is not named stands in no one's way
+pub order-program :
+    map listing ((0x01 ∷ 0x00 ∷ 0x04 ∷ []) ∷ (0x01 ∷ 0x00 ∷ 0x05 ∷ []) ∷ (0x02 ∷ 0x40 ∷ 0x01 ∷ 0x04 ∷ []) ∷ (0x02 ∷ 0x40 ∷ 0x80 ∷ 0x04 ∷ []) ∷ (0x01 ∷ 0x00 ∷ old-235) ∷
+    (0x01 ∷ 0x00 ∷ 0x0A ∷ 0x00 ∷ 0x06 ∷ 0x00 ∷ 0x00 ∷ 0x00 ∷ 0x04 ∷ 0x04 ∷ []) ∷ [])
+    ≡ map refused (18 ∷ 5 ∷ 18 ∷ 4 ∷ 5 ∷ []) ++ (accepted (record { members = 2 ∷ 3 ∷ 5 ∷ []; moves = 3 }) ∷ [])
+unfolding computes
+order-program = refl
+
+pub members-18 : list-members (0x01 ∷ 0x00 ∷ 0x04 ∷ []) sevens ≡ refuses 18 2 (sevens ∷ [])
+unfolding computes
+members-18 = refl

@@ -10,14 +10,14 @@ use lib.ListN.{length}
 use Rattle.model.specs.declared.Node.{Node}
 use Rattle.model.specs.declared.Node.the-variants.{Leaf, Difference, Union, Intersection}
 use Rattle.model.specs.Outcome.{Outcome, refused, accepted, _>>=_, _>>_, require, number-of, Success, sent}
-use Rattle.model.specs.Lists.{top, all-ascending, lists-from, count-holds, ends-hold, Lent, lists-of}
+use Rattle.model.specs.Lists.{top, all-ascending, lists-from, count-holds, ends-hold, delivered, word-holds, Lent, lists-of}
 use Rattle.model.specs.Expression.{Tree}
 use Rattle.model.specs.Run.{named-in, source-of}
 use Rattle.model.specs.Fields.{bits, take-field, only-fill}
 use Rattle.model.specs.Forms.{node-of, take-byte, take-rest, take-kind, take-node, Leaf-test, there, read-members, operator, read-below, read-tree, read-row, read-packed}
 use Rattle.model.specs.Update.{Change, shown, changed, shows, is-new, has-room, fits, update-of}
 use Rattle.model.proofs.Accepted.{never-accepted}
-use Rattle.model.specs.Delivery.{largest-gap, width, read-gaps, read-body, Form, by-count, read-list, read-lists, read-in, read-delivery}
+use Rattle.model.specs.Delivery.{largest-gap, width, read-gaps, read-body, Form, by-count, read-list, read-lists, read-in, take-count, by-bit, read-stored, read-delivery}
 
 pub record Told {A : Type 0} (o : Outcome A) : Type 0 where
   pub never : (n : ℕ) → o ≡ refused n → 1 ≤ n
@@ -69,13 +69,13 @@ succeeded parts rows o t e = zero-accepts o t (sent-number parts rows o ∙ e)
 
 pub lists-told : (l : Lent) → Told (lists-of l)
 unfolding lists-of
-lists-told l = told-test 7 (count-holds (length (l .ends))) _ (omega arith) (told-test 10 (ends-hold (length (l .numbers)) 0 (l .ends)) _ (omega arith) (told-test 11 (all-ascending (lists-from (l .numbers) 0 (l .ends))) _ (omega arith) told-right))
+lists-told l = told-test 7 (count-holds (length (l .ends))) _ (omega arith) (told-test 10 (ends-hold (length (l .numbers)) 0 (l .ends) && word-holds (l .word) 0 0 (l .ends)) _ (omega arith) (told-test 11 (all-ascending (lists-from (l .numbers) 0 (l .ends))) _ (omega arith) told-right))
 
 -- ---- expressions
 
-pub there-told : (lists k : ℕ) → Told (there lists k)
+pub there-told : (lists word k : ℕ) → Told (there lists word k)
 unfolding there
-there-told lists k = told-require 4 (ltb k lists) (omega arith)
+there-told lists word k = told-test 4 (ltb k lists) _ (omega arith) (told-require 18 (delivered word k) (omega arith))
 
 module _ {S : Type 0} (test : Leaf-test) (leaf-told : (k : ℕ) → Told (test k)) (take-one : S → Outcome (Node × S)) (one-told : (s : S) → Told (take-one s)) where
   members-told : (tree : ℕ → S → Outcome (Tree × ℕ × S)) → ((done : ℕ) (s : S) → Told (tree done s)) → (n done : ℕ) (s : S) → Told (read-members test take-one tree n done s)
@@ -172,6 +172,23 @@ module _ {A : Type 0} (form : Form A) (head-told : (bs : List Bool) → Told (fo
 by-count-told : (bs : List Bool) → Told (by-count .take-head take-field bs)
 by-count-told bs = told-then (take-field 16 bs) _ (field-told 16 bs) (λ r. told-right)
 
+by-bit-told : (bs : List Bool) → Told (by-bit .take-head take-field bs)
+unfolding take-count
+by-bit-told bs = told-then (take-field 1 bs) _ (field-told 1 bs) (λ r. count-told (r .0) (r .1))
+  where
+    count-told : (bit : ℕ) (bs : List Bool) → Told (take-count take-field bit bs)
+    count-told zero bs = told-right
+    count-told (suc bit) bs = told-then (take-field 16 bs) _ (field-told 16 bs) (λ r. told-right)
+
 pub delivery-told : (numbers-room ends-room : ℕ) (bs : List ℕ) → Told (read-delivery numbers-room ends-room bs)
 unfolding read-delivery
-delivery-told numbers-room ends-room bs = form-told by-count by-count-told (some numbers-room) (some ends-room) bs
+delivery-told numbers-room ends-room bs = form-told by-bit by-bit-told (some numbers-room) (some ends-room) bs
+
+-- where no row is lent, in either form
+pub old-told : (bs : List ℕ) → Told (read-stored by-count bs)
+unfolding read-stored
+old-told bs = form-told by-count by-count-told none none bs
+
+pub stored-told : (bs : List ℕ) → Told (read-stored by-bit bs)
+unfolding read-stored
+stored-told bs = form-told by-bit by-bit-told none none bs

@@ -1,13 +1,13 @@
--- "Stored forms", the delivery.
-use mathlib.Core.Bool.{Bool, true, false}
-use mathlib.Core.List.{List, [], _∷_, _++_, flatMap}
+-- "Stored forms", the delivery; request Two's form of it.
+use mathlib.Core.Bool.{Bool, true, false, _&&_, cond}
+use mathlib.Core.List.{List, [], _∷_, _++_, map, flatMap}
 use mathlib.Core.Option.{Option, none, some, Option·map}
 use Prim.Native.Nat.{ℕ, zero, suc, _+_, _-_, _*_, _^_, min, max}
 use lib.Dec.{ltb, leb, eqb}
-use lib.ListN.{length}
+use lib.ListN.{length, replicate}
 use Rattle.model.specs.Outcome.{Outcome, accepted, _>>=_, _>>_, require}
-use Rattle.model.specs.Lists.{top, count-holds}
-use Rattle.model.specs.Fields.{field, bits, bytes, take-field, only-fill}
+use Rattle.model.specs.Lists.{top, count-holds, delivered}
+use Rattle.model.specs.Fields.{field, bits, value, bytes, take-field, only-fill}
 
 -- the largest gap minus 1 of the numbers behind `last`
 unfoldable pub largest-gap : ℕ → List ℕ → ℕ
@@ -40,9 +40,40 @@ pub record Form (A : Type 0) : Type 1 where
   pub head-bits : A → List Bool
   pub take-head : {S : Type 0} → (ℕ → S → Outcome (ℕ × S)) → S → Outcome ((ℕ × (List ℕ → A)) × S)
 
--- "Each list: 16 bits of count"
+-- 01's form: "Each list: 16 bits of count"
 abbrev pub by-count : Form (List ℕ)
 by-count = record { numbers-of = λ l. l; head-bits = λ l. field 16 (length l); take-head = λ take-bits source. take-bits 16 source >>= λ (count, rest). accepted ((count, λ l. l), rest) }
+
+-- Two: a list as it comes, or that it did not: "The supplier now tells an empty list from one that failed to run"
+pub data Supplied : Type 0 where
+  undelivered : Supplied
+  came : List ℕ → Supplied
+
+-- its numbers, none where it did not come; and whether it came
+unfoldable pub supplied-numbers : Supplied → List ℕ
+supplied-numbers undelivered = []
+supplied-numbers (came l) = l
+
+unfoldable pub is-delivered : Supplied → Bool
+is-delivered undelivered = false
+is-delivered (came l) = true
+
+unfoldable pub all-delivered : List Supplied → Bool
+all-delivered [] = true
+all-delivered (a ∷ ss) = is-delivered a && all-delivered ss
+
+-- "In the new delivery form one bit precedes each count: 1 delivered, 0 not delivered, and after 0 nothing more for that
+-- list"
+unfoldable pub bit-and-count : Supplied → List Bool
+bit-and-count undelivered = field 1 0
+bit-and-count (came l) = field 1 1 ++ field 16 (length l)
+
+unfoldable pub take-count : {S : Type 0} → (ℕ → S → Outcome (ℕ × S)) → ℕ → S → Outcome ((ℕ × (List ℕ → Supplied)) × S)
+take-count take-bits zero source = accepted ((0, λ l. undelivered), source)
+take-count take-bits (suc bit) source = take-bits 16 source >>= λ (count, rest). accepted ((count, came), rest)
+
+abbrev pub by-bit : Form Supplied
+by-bit = record { numbers-of = supplied-numbers; head-bits = bit-and-count; take-head = λ take-bits source. take-bits 1 source >>= λ (bit, rest). take-count take-bits bit rest }
 
 -- a list, written
 unfoldable pub list-bits : {A : Type 0} → Form A → A → List Bool
@@ -108,9 +139,28 @@ read-in form numbers-room ends-room bs = do
 unfoldable pub read-stored : {A : Type 0} → Form A → List ℕ → Outcome (List A)
 read-stored form bs = read-in form none none bs
 
--- this paper's form, written and read
-unfoldable pub delivery : List (List ℕ) → List ℕ
-delivery ls = delivery-in by-count ls
+-- "Otherwise only the new form is read and written"
+unfoldable pub delivery : List Supplied → List ℕ
+delivery ss = delivery-in by-bit ss
 
-unfoldable pub read-delivery : ℕ → ℕ → List ℕ → Outcome (List (List ℕ))
-read-delivery numbers-room ends-room bs = read-in by-count (some numbers-room) (some ends-room) bs
+unfoldable pub read-delivery : ℕ → ℕ → List ℕ → Outcome (List Supplied)
+read-delivery numbers-room ends-room bs = read-in by-bit (some numbers-room) (some ends-room) bs
+
+-- "P9 and the table's delivery bytes stay the old form's"
+unfoldable pub old-delivery : List (List ℕ) → List ℕ
+old-delivery ls = delivery-in by-count ls
+
+unfoldable pub read-old-delivery : ℕ → ℕ → List ℕ → Outcome (List (List ℕ))
+read-old-delivery numbers-room ends-room bs = read-in by-count (some numbers-room) (some ends-room) bs
+
+-- lists and a word, as they are supplied: from list k on
+unfoldable pub supplied-from : ℕ → ℕ → List (List ℕ) → List Supplied
+supplied-from word k [] = []
+supplied-from word k (l ∷ ls) = cond (delivered word k) (came l) undelivered ∷ supplied-from word (suc k) ls
+
+abbrev pub supplied : ℕ → List (List ℕ) → List Supplied
+supplied word ls = supplied-from word 0 ls
+
+-- and back: the word, "bits for lists that aren't there are 0 in every word handed back"
+unfoldable pub word-of : List Supplied → ℕ
+word-of ss = value (map is-delivered ss ++ replicate (32 - length ss) false)

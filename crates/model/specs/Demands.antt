@@ -1,6 +1,6 @@
 -- What the theorems speak of; demand 2's stored forms, and demand 3 as one statement.
 use mathlib.Core.Path.{_≡_}
-use mathlib.Core.Bool.{true, _&&_}
+use mathlib.Core.Bool.{true, false, _&&_}
 use mathlib.Core.List.{List, [], _∷_, _++_, map}
 use Prim.Native.Nat.{ℕ, suc, _+_, _-_, _≤_}
 use lib.Dec.{leb}
@@ -11,10 +11,10 @@ use Rattle.model.specs.Lists.{Numbers, ascending, Lent, lend, lists-of}
 use Rattle.model.specs.Expression.{Tree, leaf, difference, union, intersection, Members, one, more, size, depth, count}
 use Rattle.model.specs.Sets.{among, member, all-numbers, members}
 use Rattle.model.specs.Machine.{calls, machine, encode}
-use Rattle.model.specs.Run.{Start, starting, Low, Result, run, Source, source-of, run-of}
-use Rattle.model.specs.Fields.{Bytes}
-use Rattle.model.specs.Forms.{Leaf-test, there, read-packed}
-use Rattle.model.specs.Delivery.{read-delivery}
+use Rattle.model.specs.Run.{Start, starting, Low, Result, run, Source, named-in, source-of, run-of}
+use Rattle.model.specs.Fields.{Bytes, field, value}
+use Rattle.model.specs.Forms.{Leaf-test, read-packed}
+use Rattle.model.specs.Delivery.{Supplied, supplied-numbers, read-delivery}
 use Rattle.model.specs.Calls.{laid-out, unpack-expression, pack-expression, decode-delivery, encode-delivery, run-parts, run-call}
 use Rattle.model.specs.Program.{halves, Listing}
 
@@ -61,7 +61,11 @@ abbrev pub wrote : Sent → List ℕ
 wrote s = take (getD (s .parts) 0 0) (getD (s .rows) 0 [])
 
 abbrev pub left-lent : Sent → Lent
-left-lent s = lend (getD (s .rows) 0 []) (take (getD (s .parts) 0 0) (getD (s .rows) 1 []))
+left-lent s = lend (getD (s .rows) 0 []) (take (getD (s .parts) 1 0) (getD (s .rows) 1 [])) (getD (s .parts) 0 0)
+
+-- a word in the bits of the lists that are there, so many, and 0 in all others
+abbrev pub word-there : ℕ → ℕ → ℕ
+word-there lists word = value (take lists (field 32 word) ++ replicate (32 - lists) false)
 
 -- a call that has written these elements into its one lent row, and nothing behind them
 abbrev pub wrote-all : List ℕ → List ℕ → Sent
@@ -69,15 +73,16 @@ wrote-all xs lent = record { number = 0; parts = length xs ∷ []; rows = (xs ++
 
 pub record Second-demand : Type 0 where
   -- an expression packed and unpacked again, into any row that is long enough, is the row that it was
-  pub row-reads-back : (row : List ℕ) (lists : ℕ) (bytes lent : List ℕ) → pack-expression row lists bytes .number ≡ 0 → length row ≤ length lent
-      → unpack-expression (wrote (pack-expression row lists bytes)) lists lent ≡ wrote-all row lent
+  pub row-reads-back : (row : List ℕ) (lists word : ℕ) (bytes lent : List ℕ) → pack-expression row lists word bytes .number ≡ 0 → length row ≤ length lent
+      → unpack-expression (wrote (pack-expression row lists word bytes)) lists word lent ≡ wrote-all row lent
   -- bytes unpacked and packed again are the bytes that they were
-  pub packed-written-back : (bytes : List ℕ) (lists : ℕ) (row lent : List ℕ) → Bytes bytes → unpack-expression bytes lists row .number ≡ 0 → length bytes ≤ length lent
-      → pack-expression (wrote (unpack-expression bytes lists row)) lists lent ≡ wrote-all bytes lent
-  -- lists written as a delivery and read again, into rows that are long enough, are the lists that they were
+  pub packed-written-back : (bytes : List ℕ) (lists word : ℕ) (row lent : List ℕ) → Bytes bytes → unpack-expression bytes lists word row .number ≡ 0 → length bytes ≤ length lent
+      → pack-expression (wrote (unpack-expression bytes lists word row)) lists word lent ≡ wrote-all bytes lent
+  -- lists written as a delivery and read again, into rows that are long enough, are the lists that they were, and the word
+  -- that it was where they are
   pub lists-read-back : (l : Lent) (bytes lent-numbers lent-ends : List ℕ) → Numbers (l .numbers) → (ls : List (List ℕ)) → lists-of l ≡ accepted ls
       → encode-delivery l bytes .number ≡ 0 → length (all-numbers ls) ≤ length lent-numbers → length ls ≤ length lent-ends
-      → let s = decode-delivery (wrote (encode-delivery l bytes)) lent-numbers lent-ends in (s .number ≡ 0) × (lists-of (left-lent s) ≡ accepted ls)
+      → let s = decode-delivery (wrote (encode-delivery l bytes)) lent-numbers lent-ends in (s .number ≡ 0) × (lists-of (left-lent s) ≡ accepted ls) × (left-lent s .word ≡ word-there (length ls) (l .word))
   -- a delivery read and written again is the bytes that it was
   pub delivery-written-back : (bytes lent-numbers lent-ends lent : List ℕ) → Bytes bytes → decode-delivery bytes lent-numbers lent-ends .number ≡ 0 → length bytes ≤ length lent
       → encode-delivery (left-lent (decode-delivery bytes lent-numbers lent-ends)) lent ≡ wrote-all bytes lent
@@ -155,12 +160,14 @@ pub record Listed (input : List ℕ) (l : Listing) : Type 0 where
   pub stored : List ℕ × List ℕ
   pub is-stored : halves input ≡ accepted stored
   pub source : Source
-  pub is-lists : read-delivery 4096 32 (stored .1) ≡ accepted (source .lists)
-  pub is-tree : read-packed (there (length (source .lists))) (stored .0) ≡ accepted (source .tree)
+  pub supplied : List Supplied
+  pub is-supplied : read-delivery 4096 32 (stored .1) ≡ accepted supplied
+  pub is-lists : source .lists ≡ map supplied-numbers supplied
+  pub is-tree : read-packed (named-in (laid-out supplied)) (stored .0) ≡ accepted (source .tree)
   pub ascend : ascending (l .members) ≡ true
   pub every : (x : ℕ) → among x (l .members) ≡ member (source .lists) (source .tree) x
   pub result : Result
   pub ran : (ds : List ℕ) → length ds ≡ suc (length (l .members)) → (lent : List ℕ) → length ds ≤ length lent
-      → Sound-run (laid-out (source .lists)) (stored .0) source (starting 0) (replicate (length ds) 0) ds lent result
+      → Sound-run (laid-out supplied) (stored .0) source (starting 0) (replicate (length ds) 0) ds lent result
   pub replies : result .replies ≡ map Member (l .members) ++ (Finished ∷ [])
   pub moved : result .moves ≡ l .moves

@@ -7,6 +7,7 @@ use lib.ListN.{length}
 use Rattle.model.specs.declared.Node.{Node}
 use Rattle.model.specs.declared.Node.the-variants.{Leaf, Difference, Union, Intersection}
 use Rattle.model.specs.Outcome.{Outcome, refused, accepted, _>>=_, _>>_, require}
+use Rattle.model.specs.Lists.{delivered}
 use Rattle.model.specs.Expression.{Tree, leaf, difference, union, intersection, Members, one, more, count}
 use Rattle.model.specs.Fields.{field, bits, bytes, take-field, only-fill}
 
@@ -81,12 +82,15 @@ module _ {S : Type 0} (take-bits : ℕ → S → Outcome (ℕ × S)) where
     (kind, rest) ← take-bits 2 source
     take-kind kind rest
 
--- which list numbers a leaf may name, and what refuses the others: "4 list number not there"
+-- which list numbers a leaf may name, and what refuses the others: "4 list number not there"; Two: "18 an expression naming
+-- an undelivered list, straight after 4"; of so many lists, with this word
 abbrev pub Leaf-test : Type 0
 Leaf-test = ℕ → Outcome (Unit {0})
 
-unfoldable pub there : ℕ → Leaf-test
-there lists k = require 4 (ltb k lists)
+unfoldable pub there : ℕ → ℕ → Leaf-test
+there lists word k = do
+  require 4 (ltb k lists)
+  require 18 (delivered word k)
 
 -- Reading either form, from a source off which `take-one` takes one node
 module _ {S : Type 0} (named : Leaf-test) (take-one : S → Outcome (Node × S)) where
@@ -119,7 +123,7 @@ module _ {S : Type 0} (named : Leaf-test) (take-one : S → Outcome (Node × S))
   read-below tree (Union n) done source = operator union (read-members tree (n - 1) done source)
   read-below tree (Intersection n) done source = operator intersection (read-members tree (n - 1) done source)
 
-  -- "At each node: 2, 3, 1, then 4 (in a row also 14)", with so much depth left and so many nodes done
+  -- "At each node: 2, 3, 1, then 4 (in a row also 14)", and 18, with so much depth left and so many nodes done
   unfoldable pub read-tree : ℕ → ℕ → S → Reading Tree
   read-tree zero done source = do
     require 2 (ltb done 48)

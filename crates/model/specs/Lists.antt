@@ -1,10 +1,12 @@
--- "Lists and expressions", first paragraph: numbers, list sets, and lists lent as one row of numbers and the ends.
-use mathlib.Core.Bool.{Bool, true, _&&_}
+-- "Lists and expressions", first paragraph: numbers, list sets, and lists lent as one row of numbers and the ends; request
+-- Two's word beside them.
+use mathlib.Core.Bool.{Bool, true, false, _&&_, _||_}
 use mathlib.Core.List.{List, [], _∷_}
-use Prim.Native.Nat.{ℕ, _-_, _<_}
-use lib.Dec.{ltb, leb}
+use Prim.Native.Nat.{ℕ, suc, _-_, _<_}
+use lib.Dec.{ltb, leb, eqb}
 use lib.ListN.{length, getD, take, drop}
 use Rattle.model.specs.Outcome.{Outcome, refused, accepted, _>>=_, _>>_, require}
+use Rattle.model.specs.Fields.{field}
 
 -- the first whole number that is no number any more; the highest floor and the highest bookmark
 abbrev pub top : ℕ
@@ -47,19 +49,31 @@ unfoldable pub ends-hold : ℕ → ℕ → List ℕ → Bool
 ends-hold size start [] = true
 ends-hold size start (stop ∷ ends) = leb start stop && (leb stop size && (leb (stop - start) 65535 && ends-hold size stop ends))
 
--- lists as they are lent: "all numbers in one row, plus one end for each list"
+-- Two, of a 32-bit word: list k was delivered, "list 0 in its most significant bit"
+unfoldable pub delivered : ℕ → ℕ → Bool
+delivered word k = getD (field 32 word) k false
+
+-- nor does it for the word: "An undelivered list has equal start and end; a word that contradicts this is sent back as
+-- 10"; from list k on, which starts at `start`
+unfoldable pub word-holds : ℕ → ℕ → ℕ → List ℕ → Bool
+word-holds word k start [] = true
+word-holds word k start (stop ∷ ends) = (delivered word k || eqb start stop) && word-holds word (suc k) stop ends
+
+-- lists as they are lent: "all numbers in one row, plus one end for each list"; Two: "Lists carry a 32-bit word beside the
+-- ends"
 pub record Lent : Type 0 where
   pub numbers : List ℕ
   pub ends : List ℕ
+  pub word : ℕ
 
-abbrev pub lend : List ℕ → List ℕ → Lent
-lend numbers ends = record { numbers = numbers; ends = ends }
+abbrev pub lend : List ℕ → List ℕ → ℕ → Lent
+lend numbers ends word = record { numbers = numbers; ends = ends; word = word }
 
--- the lists, after 7, 10 and 11, each over all lists before the next
+-- the lists, after 7, 10 and 11, each over all lists before the next; an undelivered one is empty
 unfoldable pub lists-of : Lent → Outcome (List (List ℕ))
 lists-of l = do
   require 7 (count-holds (length (l .ends)))
-  require 10 (ends-hold (length (l .numbers)) 0 (l .ends))
+  require 10 (ends-hold (length (l .numbers)) 0 (l .ends) && word-holds (l .word) 0 0 (l .ends))
   require 11 (all-ascending (lists-from (l .numbers) 0 (l .ends)))
   accepted (lists-from (l .numbers) 0 (l .ends))
 

@@ -1,5 +1,6 @@
--- The program `members`: from its input to the members in order and the moves, or a refusal's number.
-use mathlib.Core.List.{List, [], _∷_}
+-- The program `members`: from its input to the members in order and the moves, or a refusal's number. Two: it "reads the
+-- new form from then on".
+use mathlib.Core.List.{List, [], _∷_, map}
 use Prim.Native.Nat.{ℕ, suc}
 use lib.Dec.{leb}
 use lib.ListN.{length, take, drop, replicate}
@@ -7,9 +8,10 @@ use Rattle.model.specs.Outcome.{Outcome, refused, accepted, _>>=_, _>>_,
 use Rattle.model.specs.Expression.{Tree}
 use Rattle.model.specs.Sets.{members}
 use Rattle.model.specs.Machine.{next}
-use Rattle.model.specs.Run.{starting, run}
-use Rattle.model.specs.Forms.{there, read-packed}
-use Rattle.model.specs.Delivery.{read-delivery}
+use Rattle.model.specs.Run.{starting, run, named-in}
+use Rattle.model.specs.Forms.{read-packed}
+use Rattle.model.specs.Delivery.{supplied-numbers, read-delivery}
+use Rattle.model.specs.Calls.{laid-out}
 
 -- "one byte, the expression's length; the expression; the delivery"; 1 for a missing length byte or a short expression
 unfoldable pub halves : List ℕ → Outcome (List ℕ × List ℕ)
@@ -32,9 +34,9 @@ unfoldable pub listing : List ℕ → Outcome Listing
 listing input = do
   require 6 (leb (length input) 65535)
   (expression, stored) ← halves input
-  ls ← read-delivery 4096 32 stored
-  t ← read-packed (there (length ls)) expression
-  accepted (listing-of ls t)
+  ss ← read-delivery 4096 32 stored
+  t ← read-packed (named-in (laid-out ss)) expression
+  accepted (listing-of (map supplied-numbers ss) t)
 
 -- what success sends back: how many members, the moves; the members in a lent row, for which it may be too short (6)
 unfoldable pub listed : List ℕ → Listing → Outcome Success

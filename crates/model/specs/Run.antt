@@ -70,14 +70,14 @@ run ls t start cs =
     let (rs, s) = steps ls t (begin start) cs in
     record { replies = rs; moves = s .readers .moves; places = s .readers .places; last = starting (s .floor) }
 
--- lists and expression, by what a run tests ahead of the bookmark: 7, 10, 11; 1 to 5
+-- lists and expression, by what a run tests ahead of the bookmark: 7, 10, 11; 1 to 5 and 18
 pub record Source : Type 0 where
   pub lists : List (List ℕ)
   pub tree : Tree
 
--- what a leaf may name over them: "list number not there" is 4
+-- what a leaf may name over them: a list that is there (4) and was delivered (18)
 abbrev pub named-in : Lent → Leaf-test
-named-in l = there (length (l .ends))
+named-in l = there (length (l .ends)) (l .word)
 
 unfoldable pub source-of : Lent → List ℕ → Outcome Source
 source-of l expression = do

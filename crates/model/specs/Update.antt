@@ -67,7 +67,8 @@ unfoldable pub fits : Lent → List ℕ → Source → Bool
 fits l kept s = leb (length (all-numbers (s .lists))) (length (l .numbers)) && leb (length (shown s)) (length kept)
 
 -- lists and expression as the call leaves them: "Where there is no list k, that is 4, straight after the expression's own
--- tests"; "tested after the lists and the expression, in the order 17, 15, 16, then 6"
+-- tests"; Two: it "gives 18 for an undelivered list k too, straight after its 4"; "tested after the lists and the
+-- expression, in the order 17, 15, 16, then 6"
 unfoldable pub update-of : Lent → List ℕ → Change → List ℕ → ℕ → Outcome Source
 update-of l expression c kept count = do
   s ← source-of l expression

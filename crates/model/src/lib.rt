@@ -1,6 +1,6 @@
 // The types that the definitions and every other crate share. Their meaning is in specs/.
 ghost use mathlib.Core.Path.{_≡_};
-ghost use Rattle.model.specs.Calls.{written-refused, delivered-refused, ran-refused, counted-refused};
+ghost use Rattle.model.specs.Calls.{written-refused, decoded-refused, ran-refused, counted-refused};
 
 // One node of an expression: a list by its number, a difference of two nodes, a union or an intersection of 1 to 8
 // (their number). Its member nodes follow it, each with all that is below it.
@@ -36,10 +36,12 @@ impl WriteResult {
     }
 }
 
-// What reading a delivery hands back: the number of a refusal or 0, how many lists, and how many numbers in all of them.
+// What reading a delivery hands back: the number of a refusal or 0, the word that says which lists came, how many lists, and
+// how many numbers in all of them.
 #[repr(C)]
 pub struct DecodeResult {
     pub number: u32,
+    pub word: u32,
     pub lists: usize,
     pub numbers: usize,
 }
@@ -47,10 +49,11 @@ pub struct DecodeResult {
 impl DecodeResult {
     // The same, of what reading a delivery hands back.
     pub fn refused(number: u32) -> Self
-        ensures { λ r. ⌜ r ≡ delivered-refused number ⌝ }
+        ensures { λ r. ⌜ r ≡ decoded-refused number ⌝ }
     {
         DecodeResult {
             number,
+            word: 0,
             lists: 0,
             numbers: 0,
         }

@@ -92,7 +92,7 @@ read-stands : (l : Lent) (packed : List ℕ) {r : declared.Expression} (t : Tree
 unfolding expression-of
 read-stands l packed t few e f =
     let lists : ℕ = length (l .ends) in
-    rw (f ∙ ap expression-of e) (row-stands (named-in l) lists t (there-is lists) few (packed-reads (named-in l) packed t e))
+    rw (f ∙ ap expression-of e) (row-stands (named-in l) lists t (there-is lists (l .word)) few (packed-reads (named-in l) packed t e))
 
 -- with number 0: a tree, which stands at the first node
 pub record Read-over (l : Lent) (packed : List ℕ) (r : declared.Expression) : Type 0 where
@@ -103,7 +103,7 @@ pub record Read-over (l : Lent) (packed : List ℕ) (r : declared.Expression) : 
 module _ (l : Lent) (packed : List ℕ) {r : declared.Expression} (e : r ≡ expression-of (read-packed (named-in l) packed)) where
   pub read-over : length (l .ends) ≤ 32 → r .number ≡ 0 → Read-over l packed r
   read-over few z =
-      let s = zero-accepts (read-packed (named-in l) packed) (packed-told (named-in l) (there-told (length (l .ends))) packed) (sym (number-is _ e) ∙ z) in
+      let s = zero-accepts (read-packed (named-in l) packed) (packed-told (named-in l) (there-told (length (l .ends)) (l .word)) packed) (sym (number-is _ e) ∙ z) in
       record { tree = s .got; is = s .is; stands = read-stands l packed (s .got) few (s .is) e }
 
   -- with another: its refusal

@@ -2,7 +2,7 @@
 -- and the moves. Assumes nothing.
 use mathlib.Core.Path.{_≡_, refl, sym, ap, ap₂, _∙_}
 use mathlib.Core.Bool.{Bool, true, false}
-use mathlib.Core.List.{List, [], _∷_, _++_}
+use mathlib.Core.List.{List, [], _∷_, _++_, map}
 use Prim.Native.Nat.{ℕ, _+_, _≤_}
 use native.Mathlib.Omega.{arith}
 use borrow.Author.Tests.{le-leb}
@@ -11,9 +11,10 @@ use lib.ListN.{length, getD, take, drop, length-take}
 use lib.Seq.{take-append-seam}
 use Rattle.model.specs.declared.MembersResult.{MembersResult}
 use Rattle.model.specs.Outcome.{Outcome, refused, accepted, _>>=_, _>>_, require, Sent, over, sent}
-use Rattle.model.specs.Forms.{there, read-packed}
-use Rattle.model.specs.Delivery.{read-delivery}
-use Rattle.model.specs.Calls.{counted}
+use Rattle.model.specs.Run.{named-in}
+use Rattle.model.specs.Forms.{read-packed}
+use Rattle.model.specs.Delivery.{supplied-numbers, read-delivery, word-of}
+use Rattle.model.specs.Calls.{counted, laid-out}
 use Rattle.model.specs.Program.{halves, Listing, listing-of, listing, listed, list-members}
 use Rattle.model.proofs.Accepted.{never-accepted}
 use Rattle.model.proofs.Denoted.{members-few}
@@ -40,8 +41,8 @@ few-right k h = record { few = λ l e. let same : k ≡ l = cc in omega (arith, 
 listing-few : (input : List ℕ) → Few (listing input)
 unfolding listing listing-of
 listing-few input =
-    few-test 6 (leb (length input) 65535) _ (few-then (halves input) _ (λ hs _. few-then (read-delivery 4096 32 (hs .1)) _ (λ ls d. few-then (read-packed (there (length ls)) (hs .0)) _
-    (λ t _. few-right (listing-of ls t) (omega (arith, members-few ls t, delivery-holds 4096 32 (hs .1) ls d .numbers))))))
+    few-test 6 (leb (length input) 65535) _ (few-then (halves input) _ (λ hs _. few-then (read-delivery 4096 32 (hs .1)) _ (λ ss d. few-then (read-packed (named-in (laid-out ss)) (hs .0)) _
+    (λ t _. few-right (listing-of (map supplied-numbers ss) t) (omega (arith, members-few (map supplied-numbers ss) t, delivery-holds 4096 32 (hs .1) ss d .numbers))))))
 
 -- ---- a refusal's number is not 0
 
@@ -53,8 +54,8 @@ halves-told (n ∷ bs) = told-test 1 (leb n (length bs)) _ (omega arith) told-ri
 listing-told : (input : List ℕ) → Told (listing input)
 unfolding listing
 listing-told input =
-    told-test 6 (leb (length input) 65535) _ (omega arith) (told-then (halves input) _ (halves-told input) (λ hs. told-then (read-delivery 4096 32 (hs .1)) _ (delivery-told 4096 32 (hs .1)) (λ ls.
-    told-then (read-packed (there (length ls)) (hs .0)) _ (packed-told (there (length ls)) (there-told (length ls)) (hs .0)) (λ t. told-right))))
+    told-test 6 (leb (length input) 65535) _ (omega arith) (told-then (halves input) _ (halves-told input) (λ hs. told-then (read-delivery 4096 32 (hs .1)) _ (delivery-told 4096 32 (hs .1)) (λ ss.
+    told-then (read-packed (named-in (laid-out ss)) (hs .0)) _ (packed-told (named-in (laid-out ss)) (there-told (length (laid-out ss .ends)) (word-of ss)) (hs .0)) (λ t. told-right))))
 
 -- ---- what is handed back
 

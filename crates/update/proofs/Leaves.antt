@@ -32,7 +32,7 @@ use Rattle.update.proofs.Whole.{All-passed, all-passed, with-it, shifte
 -- ---- a refusal
 module _ (l : Lent) (packed : List ℕ) (c : Change) (kept : List ℕ) (count : ℕ) where
   numbers-same : number-of (placed-of l packed c kept count) ≡ number-of (update-of l packed c kept count)
-  unfolding placed-of plan-of update-of number-of
+  unfolding placed-of plan-of update-of fits number-of
   numbers-same = go (source-of l packed) refl
     where
       tests : {A B : Type 0} (k n r f : Bool) (a : A) (b : B) → number-of (require 17 k >> (require 15 n >> (require 16 r >> (require 6 f >> accepted a)))) ≡ number-of (require 17 k >> (require 15 n >> (require 16 r >> (require 6 f >> accepted b))))

@@ -6,7 +6,7 @@ use mathlib.Core.List.{List, _∷_, _++_, append-assoc}
 use Prim.Native.Nat.{ℕ, suc, _+_, _≤_, _<_}
 use native.Mathlib.Numerals.{add-one}
 use native.Mathlib.Omega.{arith}
-use borrow.Author.Tests.{le-ltb, lt-ltb, eq-eqb, eqb-true, leb-true}
+use borrow.Author.Tests.{eq-eqb, eqb-true, leb-true}
 use lib.Dec.{eqb, leb}
 use lib.ListN.{length, take, drop, length-append, length-take}
 use lib.Seq.{take-take, take-all, length-take-le}
@@ -15,10 +15,10 @@ use Rattle.model.specs.Lists.{lists-from, Lent, lists-of}
 use Rattle.model.specs.Expression.{Tree}
 use Rattle.model.specs.Sets.{all-numbers, members}
 use Rattle.model.specs.Run.{Source, named-in, source-of}
-use Rattle.model.specs.Forms.{there, read-packed}
+use Rattle.model.specs.Forms.{read-packed}
 use Rattle.model.specs.Update.{Change, new-lists, changed, same, shows, is-new, has-room, fits}
 use Rattle.model.proofs.Order.{and-true}
-use Rattle.model.proofs.Accepted.{accepted-same, bound, both, required, lists-accepted, there-is}
+use Rattle.model.proofs.Accepted.{accepted-same, bound, both, required, lists-accepted, there-is, there-came}
 use Rattle.model.proofs.DemandThree.{source-accepted}
 use Rattle.changes.proofs.Changes.{same-is}
 use Rattle.changes.proofs.RequestOne.{Passed}
@@ -61,17 +61,17 @@ module _ (l : Lent) (packed : List ℕ) (c : Change) (kept : List ℕ) (count : 
     whole-expression n f = rw (e, f)
 
     module _ (t : Tree) (f : read-packed (named-in l) packed ≡ accepted t) where
-      pub whole-4 : length (l .ends) ≤ c .list → refused 4 ≡ placed-of l packed c kept count
-      unfolding placed-of source-of there
-      whole-4 h = rw (e, f, le-ltb (c .list) (length (l .ends)) h)
+      pub whole-named : (n : ℕ) → named-in l (c .list) ≡ refused n → refused n ≡ placed-of l packed c kept count
+      unfolding placed-of source-of
+      whole-named n h = rw (e, f, h)
 
-      pub whole-17 : c .list < length (l .ends) → shows kept count (members ls t) ≡ false → refused 17 ≡ placed-of l packed c kept count
-      unfolding placed-of source-of there
-      whole-17 h s = rw (e, f, lt-ltb (c .list) (length (l .ends)) h, s)
+      pub whole-17 : named-in l (c .list) ≡ accepted tt → shows kept count (members ls t) ≡ false → refused 17 ≡ placed-of l packed c kept count
+      unfolding placed-of source-of
+      whole-17 h s = rw (e, f, h, s)
 
-      pub whole-plan : c .list < length (l .ends) → shows kept count (members ls t) ≡ true → plan-of (l .numbers) (l .ends) c kept count t ≡ placed-of l packed c kept count
-      unfolding placed-of source-of there
-      whole-plan h s = rw (e, f, lt-ltb (c .list) (length (l .ends)) h, s)
+      pub whole-plan : named-in l (c .list) ≡ accepted tt → shows kept count (members ls t) ≡ true → plan-of (l .numbers) (l .ends) c kept count t ≡ placed-of l packed c kept count
+      unfolding placed-of source-of
+      whole-plan h s = rw (e, f, h, s)
 
   -- and where none refuses
   pub record All-passed (p : Placed) : Type 0 where
@@ -99,7 +99,8 @@ module _ (l : Lent) (packed : List ℕ) (c : Change) (kept : List ℕ) (count : 
         is-source = a .first;
         lists-are = are;
         passed = record {
-          named = there-is (length (l .ends)) (c .list) (b .0);
+          named = there-is (length (l .ends)) (l .word) (c .list) (b .0);
+          came = there-came (length (l .ends)) (l .word) (c .list) (b .0);
           counted = eqb-true count (length (members (s .lists) (s .tree))) (w .0);
           kept-is = same-is (take count kept) (members (s .lists) (s .tree)) (w .1);
           new = rw are (n .0);

@@ -49,12 +49,12 @@ pub record Placed : Type 0 where
 unfoldable pub plan-says : Plan → Outcome Placed
 plan-says p = elim (p .number) [ zero ↦ accepted (record { at = p .at; used = p .used; place = p .place; was = p .was; will = p .will }) | suc n ↦ refused (suc n) ]
 
--- the tests behind 17, and what they find
+-- the tests behind 17, and what they find; the word is no part of what fits
 unfoldable pub plan-of : (numbers ends : List ℕ) → Change → (kept : List ℕ) → ℕ → Tree → Outcome Placed
 plan-of numbers ends c kept count t =
     let ls = lists-from numbers 0 ends in
     let s : Source = record { lists = ls; tree = t } in
-    require 15 (is-new c ls) >> (require 16 (has-room c ls) >> (require 6 (fits (lend numbers ends) kept (changed c s)) >> accepted (record {
+    require 15 (is-new c ls) >> (require 16 (has-room c ls) >> (require 6 (fits (lend numbers ends 0) kept (changed c s)) >> accepted (record {
       at = getD (0 ∷ ends) (c .list) 0 + passed (old-list c ls) (c .number);
       used = getD (0 ∷ ends) (length ends) 0;
       place = passed (take count kept) (c .number);

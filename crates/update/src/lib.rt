@@ -2,12 +2,12 @@
 // it. Nothing is written before the last test has passed.
 ghost use mathlib.Core.Path.{_≡_};
 ghost use Prim.Native.Nat.{_-_, _≤_, _<_};
-ghost use mathlib.Core.Bool.{not, _||_};
+ghost use mathlib.Core.Bool.{true, not, _||_};
 ghost use mathlib.Core.List.{_∷_};
 ghost use lib.Dec.{ltb};
 ghost use lib.ListN.{length, getD};
 ghost use Rattle.model.specs.Outcome.{accepted};
-ghost use Rattle.model.specs.Lists.{lists-from, lend, lists-of};
+ghost use Rattle.model.specs.Lists.{count-holds, ends-hold, lend};
 ghost use Rattle.model.specs.Update.{change, update as update-call, updated};
 ghost use Rattle.model.specs.RequestOne.{moved, Request-one-met};
 ghost use Rattle.reader.specs.Rows.{Standing, Ready};
@@ -116,7 +116,7 @@ fn examine(
 ) -> Plan
     requires { ⌜ Ready (now numbers) (now ends) (now nodes) (now behind) ⌝ }
     requires { ⌜ Standing (length (now ends)) (now nodes) 0 ⌝ }
-    requires { ⌜ (lists-of (lend (now numbers) (now ends)) ≡ accepted (lists-from (now numbers) 0 (now ends))) × (list < length (now ends)) ⌝ }
+    requires { ⌜ (ends-hold (length (now numbers)) 0 (now ends) ≡ true) × (count-holds (length (now ends)) ≡ true) × (list < length (now ends)) ⌝ }
     requires { ⌜ Kept (now numbers) (now ends) (now nodes) (now members) count ⌝ }
     ensures { λ r. ⌜ Plans (now (numbers .entry)) (now (ends .entry)) (now (nodes .entry)) (as-change list number adds) (now (members .entry)) count r ⌝ }
 {
@@ -136,10 +136,11 @@ fn examine(
     }
 }
 
-// All tests, in their order: of lists, of the expression, 4 for the list, 17, and those behind it.
+// All tests, in their order: of lists, of the expression, 4 and 18 for the list, 17, and those behind it.
 fn find_plan(
     numbers: &[u32],
     ends: &[u32],
+    word: u32,
     packed: &[u8],
     list: usize,
     number: u32,
@@ -147,18 +148,19 @@ fn find_plan(
     members: &[u32],
     count: usize,
 ) -> Plan
-    ensures { λ r. ⌜ plan-says r ≡ placed-of (lend (now (numbers .entry)) (now (ends .entry))) (now (packed .entry)) (as-change list number adds) (now (members .entry)) count ⌝ }
+    ensures { λ r. ⌜ plan-says r ≡ placed-of (lend (now (numbers .entry)) (now (ends .entry)) word) (now (packed .entry)) (as-change list number adds) (now (members .entry)) count ⌝ }
 {
-    let refused = lists::test_lists(numbers, ends);
+    let refused = lists::test_lists(numbers, ends, word);
     if refused != 0 {
         return Plan::refused(refused);
     }
-    let read = expression::read_expression(Form::Packed, packed, ends.len());
+    let read = expression::read_expression(Form::Packed, packed, ends.len(), word);
     if read.number != 0 {
         return Plan::refused(read.number);
     }
-    if ends.len() <= list {
-        return Plan::refused(4);
+    let named = expression::test_list(ends.len(), word, list);
+    if named != 0 {
+        return Plan::refused(named);
     }
     if members.len() < count {
         return Plan::refused(17);
@@ -194,6 +196,7 @@ fn count_by_one(count: usize, adds: bool) -> usize
 pub fn update(
     numbers: &mut [u32],
     ends: &mut [u32],
+    word: u32,
     packed: &[u8],
     list: usize,
     number: u32,
@@ -201,12 +204,22 @@ pub fn update(
     members: &mut [u32],
     count: &mut usize,
 ) -> u32
-    ensures call { λ r. ⌜ updated r (now (numbers .exit)) (now (ends .exit)) (now (members .exit)) (now (count .exit)) ≡ update-call (lend (now (numbers .entry)) (now (ends .entry))) (now (packed .entry)) (change list number add) (now (members .entry)) (now (count .entry)) ⌝ }
-    ensures request { λ r. ⌜ Request-one-met (lend (now (numbers .entry)) (now (ends .entry))) (now (packed .entry)) (change list number add) (now (members .entry)) (now (count .entry)) (updated r (now (numbers .exit)) (now (ends .exit)) (now (members .exit)) (now (count .exit))) ⌝ }
+    ensures call { λ r. ⌜ updated r (now (numbers .exit)) (now (ends .exit)) (now (members .exit)) (now (count .exit)) ≡ update-call (lend (now (numbers .entry)) (now (ends .entry)) word) (now (packed .entry)) (change list number add) (now (members .entry)) (now (count .entry)) ⌝ }
+    ensures request { λ r. ⌜ Request-one-met (lend (now (numbers .entry)) (now (ends .entry)) word) (now (packed .entry)) (change list number add) (now (members .entry)) (now (count .entry)) (updated r (now (numbers .exit)) (now (ends .exit)) (now (members .exit)) (now (count .exit))) ⌝ }
 {
     let held = *count;
     let adds = add != 0;
-    let plan = find_plan(numbers, ends, packed, list, number, adds, members, held);
+    let plan = find_plan(
+        numbers,
+        ends,
+        word,
+        packed,
+        list,
+        number,
+        adds,
+        members,
+        held,
+    );
     if plan.number != 0 {
         return plan.number;
     }

@@ -4,7 +4,7 @@
 ghost use mathlib.Core.Path.{_≡_};
 ghost use Rattle.model.specs.Lists.{lend, span-of};
 ghost use Rattle.model.specs.Run.{starting};
-ghost use Rattle.model.specs.Calls.{written, delivered, ran, unpack-expression, pack-expression, decode-delivery, encode-delivery, run-call};
+ghost use Rattle.model.specs.Calls.{written, decoded, ran, unpack-expression, pack-expression, decode-delivery, encode-delivery, upgrade-delivery, downgrade-delivery, run-call};
 ghost use Rattle.model.specs.Demands.{Third-demand-met};
 ghost use Rattle.model.specs.Update.{change, update, updated};
 ghost use Rattle.model.specs.RequestOne.{Request-one-met};
@@ -19,11 +19,12 @@ use model::WriteResult;
 pub extern "C" fn zwailmoor_unpack_expression(
     bytes: &[u8],
     lists: usize,
+    word: u32,
     row: &mut [u8],
 ) -> WriteResult
-    ensures { λ r. ⌜ written r (now (row .exit)) ≡ unpack-expression (now (bytes .entry)) lists (now (row .entry)) ⌝ }
+    ensures { λ r. ⌜ written r (now (row .exit)) ≡ unpack-expression (now (bytes .entry)) lists word (now (row .entry)) ⌝ }
 {
-    forms::unpack_expression(bytes, lists, row)
+    forms::unpack_expression(bytes, lists, word, row)
 }
 
 // The row form of an expression into its packed form.
@@ -31,11 +32,12 @@ pub extern "C" fn zwailmoor_unpack_expression(
 pub extern "C" fn zwailmoor_pack_expression(
     row: &[u8],
     lists: usize,
+    word: u32,
     bytes: &mut [u8],
 ) -> WriteResult
-    ensures { λ r. ⌜ written r (now (bytes .exit)) ≡ pack-expression (now (row .entry)) lists (now (bytes .entry)) ⌝ }
+    ensures { λ r. ⌜ written r (now (bytes .exit)) ≡ pack-expression (now (row .entry)) lists word (now (bytes .entry)) ⌝ }
 {
-    forms::pack_expression(row, lists, bytes)
+    forms::pack_expression(row, lists, word, bytes)
 }
 
 // Reads a delivery.
@@ -45,7 +47,7 @@ pub extern "C" fn zwailmoor_decode_delivery(
     numbers: &mut [u32],
     ends: &mut [u32],
 ) -> DecodeResult
-    ensures { λ r. ⌜ delivered r (now (numbers .exit)) (now (ends .exit)) ≡ decode-delivery (now (bytes .entry)) (now (numbers .entry)) (now (ends .entry)) ⌝ }
+    ensures { λ r. ⌜ decoded r (now (numbers .exit)) (now (ends .exit)) ≡ decode-delivery (now (bytes .entry)) (now (numbers .entry)) (now (ends .entry)) ⌝ }
 {
     decode::decode_delivery(bytes, numbers, ends)
 }
@@ -55,19 +57,36 @@ pub extern "C" fn zwailmoor_decode_delivery(
 pub extern "C" fn zwailmoor_encode_delivery(
     numbers: &[u32],
     ends: &[u32],
+    word: u32,
     bytes: &mut [u8],
 ) -> WriteResult
-    ensures { λ r. ⌜ written r (now (bytes .exit)) ≡ encode-delivery (lend (now (numbers .entry)) (now (ends .entry))) (now (bytes .entry)) ⌝ }
+    ensures { λ r. ⌜ written r (now (bytes .exit)) ≡ encode-delivery (lend (now (numbers .entry)) (now (ends .entry)) word) (now (bytes .entry)) ⌝ }
 {
-    encode::encode_delivery(numbers, ends, bytes)
+    encode::encode_delivery(numbers, ends, word, bytes)
+}
+
+// Moves a stored delivery from 01's form to Two's, all lists delivered.
+#[no_mangle]
+pub extern "C" fn zwailmoor_upgrade_delivery(old: &[u8], bytes: &mut [u8]) -> WriteResult
+    ensures { λ r. ⌜ written r (now (bytes .exit)) ≡ upgrade-delivery (now (old .entry)) (now (bytes .entry)) ⌝ }
+{
+    convert::upgrade_delivery(old, bytes)
+}
+
+// And back.
+#[no_mangle]
+pub extern "C" fn zwailmoor_downgrade_delivery(bytes: &[u8], old: &mut [u8]) -> WriteResult
+    ensures { λ r. ⌜ written r (now (old .exit)) ≡ downgrade-delivery (now (bytes .entry)) (now (old .entry)) ⌝ }
+{
+    convert::downgrade_delivery(bytes, old)
 }
 
 // Where the part of list k stands in the numbers, and its length: C has no slice to hand back.
 #[no_mangle]
-pub extern "C" fn zwailmoor_list_span(numbers: &[u32], ends: &[u32], k: usize) -> Span
-    ensures { λ r. ⌜ span-says r ≡ span-of (lend (now (numbers .entry)) (now (ends .entry))) k ⌝ }
+pub extern "C" fn zwailmoor_list_span(numbers: &[u32], ends: &[u32], word: u32, k: usize) -> Span
+    ensures { λ r. ⌜ span-says r ≡ span-of (lend (now (numbers .entry)) (now (ends .entry)) word) k ⌝ }
 {
-    lists::list_span(numbers, ends, k)
+    lists::list_span(numbers, ends, word, k)
 }
 
 // A run.
@@ -75,16 +94,17 @@ pub extern "C" fn zwailmoor_list_span(numbers: &[u32], ends: &[u32], k: usize) -
 pub extern "C" fn zwailmoor_run(
     numbers: &[u32],
     ends: &[u32],
+    word: u32,
     packed: &[u8],
     bookmark: u64,
     codes: &[u8],
-    arguments: &[u32],
+    args: &[u32],
     replies: &mut [u64],
 ) -> RunResult
-    ensures call { λ r. ⌜ ran r (now (replies .exit)) ≡ run-call (lend (now (numbers .entry)) (now (ends .entry))) (now (packed .entry)) (starting bookmark) (now (codes .entry)) (now (arguments .entry)) (now (replies .entry)) ⌝ }
-    ensures demand { λ r. ⌜ Third-demand-met (lend (now (numbers .entry)) (now (ends .entry))) (now (packed .entry)) (starting bookmark) (now (codes .entry)) (now (arguments .entry)) (now (replies .entry)) (ran r (now (replies .exit))) ⌝ }
+    ensures call { λ r. ⌜ ran r (now (replies .exit)) ≡ run-call (lend (now (numbers .entry)) (now (ends .entry)) word) (now (packed .entry)) (starting bookmark) (now (codes .entry)) (now (args .entry)) (now (replies .entry)) ⌝ }
+    ensures demand { λ r. ⌜ Third-demand-met (lend (now (numbers .entry)) (now (ends .entry)) word) (now (packed .entry)) (starting bookmark) (now (codes .entry)) (now (args .entry)) (now (replies .entry)) (ran r (now (replies .exit))) ⌝ }
 {
-    engine::run(numbers, ends, packed, bookmark, codes, arguments, replies)
+    engine::run(numbers, ends, word, packed, bookmark, codes, args, replies)
 }
 
 // Adds a number to a list or removes it from it, and brings a kept row of members and its count up to date.
@@ -92,15 +112,16 @@ pub extern "C" fn zwailmoor_run(
 pub extern "C" fn zwailmoor_update(
     numbers: &mut [u32],
     ends: &mut [u32],
+    word: u32,
     packed: &[u8],
     list: usize,
     number: u32,
     add: u8,
-    members: &mut [u32],
+    kept: &mut [u32],
     count: &mut usize,
 ) -> u32
-    ensures call { λ r. ⌜ updated r (now (numbers .exit)) (now (ends .exit)) (now (members .exit)) (now (count .exit)) ≡ update (lend (now (numbers .entry)) (now (ends .entry))) (now (packed .entry)) (change list number add) (now (members .entry)) (now (count .entry)) ⌝ }
-    ensures request { λ r. ⌜ Request-one-met (lend (now (numbers .entry)) (now (ends .entry))) (now (packed .entry)) (change list number add) (now (members .entry)) (now (count .entry)) (updated r (now (numbers .exit)) (now (ends .exit)) (now (members .exit)) (now (count .exit))) ⌝ }
+    ensures call { λ r. ⌜ updated r (now (numbers .exit)) (now (ends .exit)) (now (kept .exit)) (now (count .exit)) ≡ update (lend (now (numbers .entry)) (now (ends .entry)) word) (now (packed .entry)) (change list number add) (now (kept .entry)) (now (count .entry)) ⌝ }
+    ensures request { λ r. ⌜ Request-one-met (lend (now (numbers .entry)) (now (ends .entry)) word) (now (packed .entry)) (change list number add) (now (kept .entry)) (now (count .entry)) (updated r (now (numbers .exit)) (now (ends .exit)) (now (kept .exit)) (now (count .exit))) ⌝ }
 {
-    update::update(numbers, ends, packed, list, number, add, members, count)
+    update::update(numbers, ends, word, packed, list, number, add, kept, count)
 }

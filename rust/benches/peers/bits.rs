@@ -1,4 +1,7 @@
-//! Deliveries read and written by idiomatic Rust, with the engine's refusals and their order.
+//! Deliveries read, written and moved between the two forms by idiomatic Rust, with the engine's refusals and their order.
+
+use super::same_steps::delivered;
+use std::ops::Range;
 
 const LONGEST: usize = 65_535;
 
@@ -44,7 +47,7 @@ fn width_of(largest: u32) -> u32 {
     (32 - largest.leading_zeros()).max(1)
 }
 
-/// Reads one list, handing each number to `put`; how many.
+/// Reads one delivered list from its count on, handing each number to `put`; how many.
 fn read_list(bits: &mut BitReader, room: usize, put: &mut impl FnMut(u32)) -> Result<usize, u32> {
     let count = bits.field(16)? as usize;
     if count > room {
@@ -72,13 +75,16 @@ fn read_list(bits: &mut BitReader, room: usize, put: &mut impl FnMut(u32)) -> Re
     Ok(count)
 }
 
-/// Reads a whole delivery, handing on each number and each end; how many lists and numbers.
+/// What was read: the word, how many lists and how many numbers.
+pub type Read = (u32, usize, usize);
+
+/// Reads a whole delivery, handing on each number and each end.
 fn read_all(
     bytes: &[u8],
     rooms: (usize, usize),
     mut put_number: impl FnMut(u32),
     mut put_end: impl FnMut(u32),
-) -> Result<(usize, usize), u32> {
+) -> Result<Read, u32> {
     let mut bits = BitReader { bytes, bit: 0 };
     let lists = bits.field(6)? as usize;
     if lists == 0 || lists > 32 {
@@ -87,19 +93,22 @@ fn read_all(
     if lists > rooms.1 {
         return Err(6);
     }
-    let mut total = 0;
-    for _ in 0..lists {
-        total += read_list(&mut bits, rooms.0 - total, &mut put_number)?;
+    let (mut word, mut total) = (0, 0);
+    for list in 0..lists {
+        if bits.field(1)? == 1 {
+            word |= 1 << (31 - list);
+            total += read_list(&mut bits, rooms.0 - total, &mut put_number)?;
+        }
         put_end(total as u32);
     }
     if !bits.at_end() {
         return Err(5);
     }
-    Ok((lists, total))
+    Ok((word, lists, total))
 }
 
 /// Reads a delivery into lent rows. A refusal leaves the rows as they were, so a first walk only tests.
-pub fn decode(bytes: &[u8], numbers: &mut [u32], ends: &mut [u32]) -> Result<(usize, usize), u32> {
+pub fn decode(bytes: &[u8], numbers: &mut [u32], ends: &mut [u32]) -> Result<Read, u32> {
     let rooms = (numbers.len(), ends.len());
     read_all(bytes, rooms, |_| (), |_| ())?;
     let (mut numbers, mut ends) = (numbers.iter_mut(), ends.iter_mut());
@@ -127,7 +136,16 @@ struct BitWriter<'a> {
     holds: u32,
 }
 
-impl BitWriter<'_> {
+impl<'a> BitWriter<'a> {
+    fn new(bytes: &'a mut [u8]) -> Self {
+        BitWriter {
+            bytes,
+            written: 0,
+            held: 0,
+            holds: 0,
+        }
+    }
+
     /// A field of 1 to 32 bits. Four bytes are written as soon as they are full.
     fn field(&mut self, value: u32, width: u32) {
         self.held = self.held << width | u64::from(value);
@@ -150,17 +168,17 @@ impl BitWriter<'_> {
 }
 
 /// The lists as parts of the lent row, or 7 or 10.
-fn parts<'a>(numbers: &'a [u32], ends: &[u32]) -> Result<Vec<&'a [u32]>, u32> {
+fn parts<'a>(numbers: &'a [u32], ends: &[u32], word: u32) -> Result<Vec<&'a [u32]>, u32> {
     if ends.is_empty() || ends.len() > 32 {
         return Err(7);
     }
     let mut start = 0;
-    let part = |&end: &u32| {
+    let part = |(k, &end): (usize, &u32)| {
         let list = numbers.get(start..end as usize).filter(|list| list.len() <= LONGEST);
         start = end as usize;
-        list.ok_or(10)
+        list.filter(|list| list.is_empty() || delivered(word, k)).ok_or(10)
     };
-    ends.iter().map(part).collect()
+    ends.iter().enumerate().map(part).collect()
 }
 
 /// The width for a list's gaps (of no use below two numbers), or 11.
@@ -197,22 +215,86 @@ fn write_list(bits: &mut BitWriter, list: &[u32], width: u32) {
 }
 
 /// Writes a delivery into a lent row; how many bytes.
-pub fn encode(numbers: &[u32], ends: &[u32], bytes: &mut [u8]) -> Result<usize, u32> {
-    let lists = parts(numbers, ends)?;
+pub fn encode(numbers: &[u32], ends: &[u32], word: u32, bytes: &mut [u8]) -> Result<usize, u32> {
+    let lists = parts(numbers, ends, word)?;
     let widths = lists.iter().map(|list| gap_width(list)).collect::<Result<Vec<_>, _>>()?;
-    let size: usize = lists.iter().zip(&widths).map(|(list, &width)| bits_of(list, width)).sum();
-    if (6 + size).div_ceil(8) > bytes.len() {
+    let came = || lists.iter().zip(&widths).enumerate().filter(|(k, _)| delivered(word, *k));
+    let size: usize = came().map(|(_, (list, &width))| bits_of(list, width)).sum();
+    if (6 + lists.len() + size).div_ceil(8) > bytes.len() {
         return Err(6);
     }
-    let mut bits = BitWriter {
-        bytes,
-        written: 0,
-        held: 0,
-        holds: 0,
-    };
+    let mut bits = BitWriter::new(bytes);
     bits.field(lists.len() as u32, 6);
-    for (list, &width) in lists.iter().zip(&widths) {
-        write_list(&mut bits, list, width);
+    for (k, (list, &width)) in lists.iter().zip(&widths).enumerate() {
+        bits.field(delivered(word, k).into(), 1);
+        if delivered(word, k) {
+            write_list(&mut bits, list, width);
+        }
     }
     Ok(bits.finish())
+}
+
+/// Reads a whole stored delivery, in the new form or in the old one; where each list's bits stand, from its count on, or `None`
+/// for one that was not delivered.
+fn lists_of(bytes: &[u8], new: bool) -> Result<Vec<Option<Range<usize>>>, u32> {
+    let mut bits = BitReader { bytes, bit: 0 };
+    let count = bits.field(6)?;
+    if count == 0 || count > 32 {
+        return Err(7);
+    }
+    let mut lists = Vec::with_capacity(count as usize);
+    for _ in 0..count {
+        if new && bits.field(1)? == 0 {
+            lists.push(None);
+            continue;
+        }
+        let start = bits.bit;
+        read_list(&mut bits, LONGEST, &mut |_| ())?;
+        lists.push(Some(start..bits.bit));
+    }
+    if !bits.at_end() {
+        return Err(5);
+    }
+    Ok(lists)
+}
+
+/// Copies bits, four bytes at a time.
+fn copy(bytes: &[u8], from: Range<usize>, to: &mut BitWriter) -> Result<(), u32> {
+    let mut bits = BitReader { bytes, bit: from.start };
+    while bits.bit + 32 <= from.end {
+        to.field(bits.field(32)?, 32);
+    }
+    let left = (from.end - bits.bit) as u32;
+    if left > 0 {
+        to.field(bits.field(left)?, left);
+    }
+    Ok(())
+}
+
+/// The lists of stored bytes in the new form or the old one, if all were delivered and they fit; how many bytes.
+fn store(bytes: &[u8], lists: &[Option<Range<usize>>], new: bool, to: &mut [u8]) -> Result<usize, u32> {
+    let lists = lists.iter().cloned().collect::<Option<Vec<_>>>().ok_or(19u32)?;
+    let size: usize = lists.iter().map(|list| list.len() + usize::from(new)).sum();
+    if (6 + size).div_ceil(8) > to.len() {
+        return Err(6);
+    }
+    let mut bits = BitWriter::new(to);
+    bits.field(lists.len() as u32, 6);
+    for list in lists {
+        if new {
+            bits.field(1, 1);
+        }
+        copy(bytes, list, &mut bits)?;
+    }
+    Ok(bits.finish())
+}
+
+/// Moves a stored delivery from the old form to the new one.
+pub fn upgrade(old: &[u8], delivery: &mut [u8]) -> Result<usize, u32> {
+    store(old, &lists_of(old, false)?, true, delivery)
+}
+
+/// Moves a delivery back to the old form.
+pub fn downgrade(delivery: &[u8], old: &mut [u8]) -> Result<usize, u32> {
+    store(delivery, &lists_of(delivery, true)?, false, old)
 }

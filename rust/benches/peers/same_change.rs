@@ -1,6 +1,6 @@
 //! One change with the row of members kept current, in idiomatic Rust: the tests, refusals and draws of the engine's call.
 
-use super::same_steps::{test_lists, tree, Node};
+use super::same_steps::{delivered, test_lists, tree, Node};
 use zwailmoor::Change;
 
 const LONGEST: usize = 65_535;
@@ -35,9 +35,12 @@ pub fn move_ends(ends: &mut [u32], adds: bool) {
 }
 
 /// A change: the tests, then the rows.
+// As many arguments as the engine's call.
+#[allow(clippy::too_many_arguments)]
 pub fn update(
     numbers: &mut [u32],
     ends: &mut [u32],
+    word: u32,
     packed: &[u8],
     list: usize,
     change: Change,
@@ -48,9 +51,12 @@ pub fn update(
         Change::Add(number) => (number, true),
         Change::Remove(number) => (number, false),
     };
-    let lists = test_lists(numbers, ends)?;
-    let root = tree(packed, &lists)?;
+    let lists = test_lists(numbers, ends, word)?;
+    let root = tree(packed, &lists, word)?;
     let part = *lists.get(list).ok_or(4u32)?;
+    if !delivered(word, list) {
+        return Err(18);
+    }
     let kept = members.get(..*count).ok_or(17u32)?;
     if !draws(root, kept) {
         return Err(17);
@@ -70,7 +76,7 @@ pub fn update(
     let alone = [number];
     let holds = |(k, l): (usize, &&[u32])| if k == list { adds } else { l.binary_search(&number).is_ok() };
     let cut: Vec<&[u32]> = lists.iter().enumerate().map(|l| &alone[..usize::from(holds(l))]).collect();
-    let will = tree(packed, &cut)?.check(number);
+    let will = tree(packed, &cut, word)?.check(number);
     let shown = kept.binary_search(&number);
     if will && shown.is_err() && members.len() == *count {
         return Err(6);

@@ -168,16 +168,21 @@ impl Machine<'_> {
     }
 }
 
+/// Whether a list was delivered: list 0 has the most significant bit.
+pub fn delivered(word: u32, list: usize) -> bool {
+    word << list >> 31 == 1
+}
+
 /// The lists as parts of the lent row, or the first of 7, 10 and 11 that refuses them.
-pub fn test_lists<'a>(numbers: &'a [u32], ends: &[u32]) -> Result<Vec<&'a [u32]>, u32> {
+pub fn test_lists<'a>(numbers: &'a [u32], ends: &[u32], word: u32) -> Result<Vec<&'a [u32]>, u32> {
     if ends.is_empty() || ends.len() > 32 {
         return Err(7);
     }
     let mut lists = Vec::with_capacity(ends.len());
     let mut start = 0;
-    for &end in ends {
+    for (k, &end) in ends.iter().enumerate() {
         let list = numbers.get(start..end as usize).ok_or(10u32)?;
-        if list.len() > 65_535 {
+        if list.len() > 65_535 || !list.is_empty() && !delivered(word, k) {
             return Err(10);
         }
         lists.push(list);
@@ -196,6 +201,7 @@ struct Parser<'p, 'a> {
     bit: usize,
     nodes: usize,
     lists: &'p [&'a [u32]],
+    word: u32,
 }
 
 impl<'a> Parser<'_, 'a> {
@@ -223,6 +229,9 @@ impl<'a> Parser<'_, 'a> {
             0 => {
                 let number = self.field(5)?;
                 let list = self.lists.get(number).copied().ok_or(4u32)?;
+                if !delivered(self.word, number) {
+                    return Err(18);
+                }
                 Ok(Node::List(Reader { list, place: 0 }))
             }
             1 => Ok(Node::Difference(Box::new([self.node(depth + 1)?, self.node(depth + 1)?]))),
@@ -248,28 +257,32 @@ impl<'a> Parser<'_, 'a> {
 }
 
 /// The tree of an expression over lists.
-pub fn tree<'a>(packed: &[u8], lists: &[&'a [u32]]) -> Result<Node<'a>, u32> {
+pub fn tree<'a>(packed: &[u8], lists: &[&'a [u32]], word: u32) -> Result<Node<'a>, u32> {
     let mut parser = Parser {
         packed,
         bit: 0,
         nodes: 0,
         lists,
+        word,
     };
     parser.expression()
 }
 
 /// A run: the tests, then the calls, each with the floor and readers that the call before it left.
+// As many arguments as the engine's call.
+#[allow(clippy::too_many_arguments)]
 pub fn run(
     numbers: &[u32],
     ends: &[u32],
+    word: u32,
     packed: &[u8],
     bookmark: u64,
     codes: &[u8],
     arguments: &[u32],
     replies: &mut [u64],
 ) -> Result<RunResult, u32> {
-    let lists = test_lists(numbers, ends)?;
-    let root = tree(packed, &lists)?;
+    let lists = test_lists(numbers, ends, word)?;
+    let root = tree(packed, &lists, word)?;
     if bookmark > TOP {
         return Err(12);
     }

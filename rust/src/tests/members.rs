@@ -1,13 +1,13 @@
 //! The iterator over pages.
 
 use super::{lent, packed, Lists, FIRST, FOURTH, SECOND, THIRD, TOP};
-use crate::{members, Members, Refusal};
+use crate::{members, Members, Refusal, ALL_DELIVERED};
 
 const PAGES: [usize; 6] = [0, 1, 2, 3, 1000, usize::MAX];
 
 /// The iterator over lists, from a bookmark on.
 fn drawing<'a>(lists: &'a Lists, packed: &'a [u8], bookmark: u64, page: usize) -> Result<Members<'a>, Refusal> {
-    members(&lists.numbers, &lists.ends, packed, bookmark, page)
+    members(&lists.numbers, &lists.ends, ALL_DELIVERED, packed, bookmark, page)
 }
 
 /// All that is left, or the first hundred of an iterator that does not end.
@@ -79,10 +79,27 @@ fn an_empty_set() {
 fn bad_input_is_refused_at_once() {
     let Lists { numbers, ends } = lent(&[FIRST]);
     let list = packed(&[0]);
-    assert_eq!(members(&numbers, &[], &list, 0, 2).err(), Some(Refusal::NumberOfLists));
-    assert_eq!(members(&numbers, &[99], &list, 0, 2).err(), Some(Refusal::BadEnds));
-    assert_eq!(members(&[5, 5], &[2], &list, 0, 2).err(), Some(Refusal::NotAscending));
-    assert_eq!(members(&numbers, &ends, &[], 0, 2).err(), Some(Refusal::EndsEarly));
-    assert_eq!(members(&numbers, &ends, &list, TOP + 1, 2).err(), Some(Refusal::BadBookmark));
-    assert!(members(&numbers, &ends, &list, TOP, 2).is_ok_and(|none| rest(none).is_empty()));
+    assert_eq!(
+        members(&numbers, &[], ALL_DELIVERED, &list, 0, 2).err(),
+        Some(Refusal::NumberOfLists)
+    );
+    assert_eq!(
+        members(&numbers, &[99], ALL_DELIVERED, &list, 0, 2).err(),
+        Some(Refusal::BadEnds)
+    );
+    assert_eq!(
+        members(&[5, 5], &[2], ALL_DELIVERED, &list, 0, 2).err(),
+        Some(Refusal::NotAscending)
+    );
+    assert_eq!(members(&numbers, &ends, 0, &list, 0, 2).err(), Some(Refusal::BadEnds));
+    assert_eq!(members(&[], &[0], 0, &list, 0, 2).err(), Some(Refusal::ListNotDelivered));
+    assert_eq!(
+        members(&numbers, &ends, ALL_DELIVERED, &[], 0, 2).err(),
+        Some(Refusal::EndsEarly)
+    );
+    assert_eq!(
+        members(&numbers, &ends, ALL_DELIVERED, &list, TOP + 1, 2).err(),
+        Some(Refusal::BadBookmark)
+    );
+    assert!(members(&numbers, &ends, ALL_DELIVERED, &list, TOP, 2).is_ok_and(|none| rest(none).is_empty()));
 }

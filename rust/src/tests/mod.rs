@@ -1,11 +1,12 @@
-//! The paper's small inputs and examples, the iterator, and changes.
+//! The papers' small inputs and examples, lists that were not delivered, the iterator, and changes.
 
+mod delivered;
 mod members;
 mod paper;
 mod refusals;
 mod updates;
 
-use crate::{run, Call, Refusal, Reply, RunResult};
+use crate::{run, Call, Refusal, Reply, RunResult, ALL_DELIVERED};
 
 const FIRST: &[u32] = &[0, 1, 2, 5, 6, 8, 9];
 const SECOND: &[u32] = &[0, 2, 3, 4, 5];
@@ -34,17 +35,26 @@ fn lent(lists: &[&[u32]]) -> Lists {
 /// An expression's row form, packed.
 fn packed(row: &[u8]) -> Vec<u8> {
     let mut bytes = [0; 41];
-    let length = crate::pack_expression(row, 32, &mut bytes).unwrap();
+    let length = crate::pack_expression(row, 32, ALL_DELIVERED, &mut bytes).unwrap();
     bytes[..length].to_vec()
 }
 
-/// A run over lists and a row form.
+/// A run over lists that were all delivered and a row form.
 fn ask(lists: &[&[u32]], row: &[u8], bookmark: u64, calls: &[Call]) -> Result<(Vec<Reply>, RunResult), Refusal> {
     let Lists { numbers, ends } = lent(lists);
     let codes: Vec<u8> = calls.iter().map(|call| call.code()).collect();
     let arguments: Vec<u32> = calls.iter().map(|call| call.argument()).collect();
     let mut replies = vec![0; calls.len()];
-    let result = run(&numbers, &ends, &packed(row), bookmark, &codes, &arguments, &mut replies)?;
+    let result = run(
+        &numbers,
+        &ends,
+        ALL_DELIVERED,
+        &packed(row),
+        bookmark,
+        &codes,
+        &arguments,
+        &mut replies,
+    )?;
     let replies = replies.into_iter().map(|reply| Reply::from_row(reply).unwrap()).collect();
     Ok((replies, result))
 }

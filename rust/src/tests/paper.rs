@@ -5,7 +5,8 @@ use crate::refusal::every;
 use crate::Call::{AtOrPast, Check, Next, Past};
 use crate::Reply::{Finished, Member, No, Unknown, Yes};
 use crate::{
-    decode_delivery, encode_delivery, list_part, pack_expression, run, unpack_expression, Call, DecodeResult, Reply, RunResult,
+    decode_delivery, downgrade_delivery, encode_delivery, list_part, pack_expression, run, unpack_expression, upgrade_delivery,
+    Call, DecodeResult, Reply, RunResult, ALL_DELIVERED,
 };
 
 #[test]
@@ -67,10 +68,10 @@ fn p7_the_greatest_number() {
 fn p8_packed_expressions() {
     for (bytes, row) in [(vec![0x40, 0x01], vec![64, 0, 1]), (vec![0x88, 0x00, 0x20], vec![130, 0, 1])] {
         let mut nodes = [77; 4];
-        assert_eq!(unpack_expression(&bytes, 2, &mut nodes), Ok(3));
+        assert_eq!(unpack_expression(&bytes, 2, ALL_DELIVERED, &mut nodes), Ok(3));
         assert_eq!((&nodes[..3], nodes[3]), (&row[..], 77));
         let mut back = [77; 4];
-        assert_eq!(pack_expression(&row, 2, &mut back), Ok(bytes.len()));
+        assert_eq!(pack_expression(&row, 2, ALL_DELIVERED, &mut back), Ok(bytes.len()));
         assert_eq!(&back[..bytes.len()], bytes);
         assert!(back[bytes.len()..].iter().all(|byte| *byte == 77));
     }
@@ -78,19 +79,42 @@ fn p8_packed_expressions() {
 
 #[test]
 fn p9_deliveries() {
-    let three = [0x04, 0x00, 0x0C, 0x00, 0x00, 0x00, 0x08, 0x08];
-    let (mut numbers, mut ends) = ([77; 4], [77; 2]);
-    let result = decode_delivery(&three, &mut numbers, &mut ends);
-    assert_eq!(result, Ok(DecodeResult { lists: 1, numbers: 3 }));
-    assert_eq!((numbers, ends), ([2, 3, 5, 77], [3, 77]));
-    let mut back = [77; 9];
-    assert_eq!(encode_delivery(&[2, 3, 5], &[3], &mut back), Ok(8));
-    assert_eq!((&back[..8], back[8]), (&three[..], 77));
+    // The paper's bytes are the old form's: they are moved to the other one, read there, written there, and moved back.
+    let deliveries: [(&[u8], &[u8], &[u32]); 2] = [
+        (
+            &[0x04, 0x00, 0x0C, 0x00, 0x00, 0x00, 0x08, 0x08],
+            &[0x06, 0x00, 0x06, 0x00, 0x00, 0x00, 0x04, 0x04],
+            &[2, 3, 5],
+        ),
+        (&[0x04, 0x00, 0x00], &[0x06, 0x00, 0x00], &[]),
+    ];
+    for (old, delivery, list) in deliveries {
+        let mut new = [77; 9];
+        assert_eq!(upgrade_delivery(old, &mut new), Ok(delivery.len()));
+        assert_eq!((&new[..delivery.len()], new[delivery.len()]), (delivery, 77));
 
-    let (mut numbers, mut ends) = ([77], [77]);
-    let result = decode_delivery(&[0x04, 0x00, 0x00], &mut numbers, &mut ends);
-    assert_eq!(result, Ok(DecodeResult { lists: 1, numbers: 0 }));
-    assert_eq!((numbers, ends), ([77], [0]));
+        let (mut numbers, mut ends) = ([77; 4], [77; 2]);
+        let result = decode_delivery(delivery, &mut numbers, &mut ends);
+        let expected = DecodeResult {
+            word: 1 << 31,
+            lists: 1,
+            numbers: list.len(),
+        };
+        assert_eq!(result, Ok(expected));
+        assert_eq!((&numbers[..list.len()], numbers[list.len()]), (list, 77));
+        assert_eq!(ends, [list.len() as u32, 77]);
+
+        let mut written = [77; 9];
+        assert_eq!(
+            encode_delivery(list, &[list.len() as u32], ALL_DELIVERED, &mut written),
+            Ok(delivery.len())
+        );
+        assert_eq!((&written[..delivery.len()], written[delivery.len()]), (delivery, 77));
+
+        let mut back = [77; 9];
+        assert_eq!(downgrade_delivery(delivery, &mut back), Ok(old.len()));
+        assert_eq!((&back[..old.len()], back[old.len()]), (old, 77));
+    }
 }
 
 #[test]
@@ -105,7 +129,17 @@ fn at_or_past_and_past() {
 fn an_unknown_code_changes_nothing() {
     let Lists { numbers, ends } = lent(&[FIRST]);
     let mut replies = [77; 4];
-    let result = run(&numbers, &ends, &packed(&[0]), 1, &[4, 0, 255], &[9, 9, 9], &mut replies).unwrap();
+    let result = run(
+        &numbers,
+        &ends,
+        ALL_DELIVERED,
+        &packed(&[0]),
+        1,
+        &[4, 0, 255],
+        &[9, 9, 9],
+        &mut replies,
+    )
+    .unwrap();
     assert_eq!(replies[3], 77);
     assert_eq!(
         replies[..3].iter().map(|reply| Reply::from_row(*reply)).collect::<Vec<_>>(),
@@ -123,20 +157,20 @@ fn a_run_of_no_calls() {
 #[test]
 fn parts_of_the_lent_numbers_themselves() {
     let Lists { numbers, ends } = lent(&[FIRST, &[], SECOND]);
-    let part = list_part(&numbers, &ends, 2);
+    let part = list_part(&numbers, &ends, ALL_DELIVERED, 2);
     assert_eq!(part, SECOND);
     assert_eq!(part.as_ptr(), numbers[FIRST.len()..].as_ptr());
-    assert_eq!(list_part(&numbers, &ends, 0), FIRST);
+    assert_eq!(list_part(&numbers, &ends, ALL_DELIVERED, 0), FIRST);
     for (part, ends) in [
-        (list_part(&numbers, &ends, 1), "an empty list"),
-        (list_part(&numbers, &ends, 3), "no such list"),
-        (list_part(&numbers, &[], 0), "no lists"),
-        (list_part(&numbers, &[2, 1], 0), "an end falls"),
-        (list_part(&[5, 5], &[2], 0), "not ascending"),
+        (list_part(&numbers, &ends, ALL_DELIVERED, 1), "an empty list"),
+        (list_part(&numbers, &ends, ALL_DELIVERED, 3), "no such list"),
+        (list_part(&numbers, &[], ALL_DELIVERED, 0), "no lists"),
+        (list_part(&numbers, &[2, 1], ALL_DELIVERED, 0), "an end falls"),
+        (list_part(&[5, 5], &[2], ALL_DELIVERED, 0), "not ascending"),
     ] {
         assert!(part.is_empty(), "{ends}");
     }
-    assert_eq!(list_part(&numbers, &ends, 3).as_ptr(), numbers.as_ptr());
+    assert_eq!(list_part(&numbers, &ends, ALL_DELIVERED, 3).as_ptr(), numbers.as_ptr());
 }
 
 #[test]

@@ -1,7 +1,10 @@
 //! The paper's small input of every refusal, and what is just accepted.
 
 use super::{ask, lent, packed, Lists, FIRST, TOP};
-use crate::{decode_delivery, encode_delivery, pack_expression, run, unpack_expression, Call, Refusal};
+use crate::{
+    decode_delivery, downgrade_delivery, encode_delivery, pack_expression, run, unpack_expression, upgrade_delivery, Call,
+    Refusal, ALL_DELIVERED,
+};
 
 const DEPTH_13: [u8; 9] = [0x84, 0x21, 0x08, 0x42, 0x10, 0x84, 0x21, 0x00, 0x00];
 
@@ -18,14 +21,14 @@ fn wide_row(last: u8) -> Vec<u8> {
 
 fn unpack(bytes: &[u8], lists: usize) -> Result<usize, Refusal> {
     let mut row = [77; 48];
-    let result = unpack_expression(bytes, lists, &mut row);
+    let result = unpack_expression(bytes, lists, ALL_DELIVERED, &mut row);
     assert!(result.is_ok() || row == [77; 48], "a refusal wrote");
     result
 }
 
 fn pack(row: &[u8], lists: usize) -> Result<usize, Refusal> {
     let mut bytes = [77; 48];
-    let result = pack_expression(row, lists, &mut bytes);
+    let result = pack_expression(row, lists, ALL_DELIVERED, &mut bytes);
     assert!(result.is_ok() || bytes == [77; 48], "a refusal wrote");
     result
 }
@@ -38,9 +41,17 @@ fn decode(bytes: &[u8], room: usize, lists: usize) -> Option<Refusal> {
     result.err()
 }
 
+/// One of the two moves, into so many bytes.
+fn moved(to: fn(&[u8], &mut [u8]) -> Result<usize, Refusal>, bytes: &[u8], room: usize) -> Result<usize, Refusal> {
+    let mut row = vec![77; room];
+    let result = to(bytes, &mut row);
+    assert!(result.is_ok() || row == vec![77; room], "a refusal wrote");
+    result
+}
+
 fn encode(numbers: &[u32], ends: &[u32], room: usize) -> Result<usize, Refusal> {
     let mut bytes = vec![77; room];
-    let result = encode_delivery(numbers, ends, &mut bytes);
+    let result = encode_delivery(numbers, ends, ALL_DELIVERED, &mut bytes);
     assert!(result.is_ok() || bytes == vec![77; room], "a refusal wrote");
     result
 }
@@ -62,8 +73,14 @@ fn expressions() {
         assert_eq!(unpack(&[0x00], lists), Err(Refusal::NumberOfLists));
         assert_eq!(pack(&[0], lists), Err(Refusal::NumberOfLists));
     }
-    assert_eq!(unpack_expression(&[0x40, 0x01], 2, &mut [0; 2]), Err(Refusal::RowTooShort));
-    assert_eq!(pack_expression(&[64, 0, 1], 2, &mut [0; 1]), Err(Refusal::RowTooShort));
+    assert_eq!(
+        unpack_expression(&[0x40, 0x01], 2, ALL_DELIVERED, &mut [0; 2]),
+        Err(Refusal::RowTooShort)
+    );
+    assert_eq!(
+        pack_expression(&[64, 0, 1], 2, ALL_DELIVERED, &mut [0; 1]),
+        Err(Refusal::RowTooShort)
+    );
 }
 
 #[test]
@@ -88,20 +105,52 @@ fn expressions_just_accepted() {
     assert_eq!(unpack(&packed(&deep), 32), Ok(12));
 }
 
+/// The table's bytes, which are the old form's.
+#[test]
+fn old_deliveries() {
+    let upgrade = |bytes: &[u8], room| moved(upgrade_delivery, bytes, room);
+    let three = [0x04, 0x00, 0x0C, 0x00, 0x00, 0x00, 0x08, 0x08];
+    assert_eq!(upgrade(&[], 99), Err(Refusal::EndsEarly));
+    assert_eq!(upgrade(&three[..7], 99), Err(Refusal::EndsEarly));
+    assert_eq!(upgrade(&[0x00], 99), Err(Refusal::NumberOfLists));
+    assert_eq!(upgrade(&[0x84], 99), Err(Refusal::NumberOfLists));
+    let passes_top = [0x04, 0x00, 0x0B, 0xFF, 0xFF, 0xFF, 0xFC, 0x00];
+    assert_eq!(upgrade(&passes_top, 99), Err(Refusal::GapPassesTop));
+    let wide = [0x04, 0x00, 0x08, 0x00, 0x00, 0x00, 0x08, 0x20];
+    assert_eq!(upgrade(&wide, 99), Err(Refusal::WidthNotLeast));
+    assert_eq!(upgrade(&[0x04, 0x00, 0x00, 0x00], 99), Err(Refusal::LeftOver));
+    assert_eq!(upgrade(&[0x04, 0x00, 0x01], 99), Err(Refusal::LeftOver));
+    assert_eq!(upgrade(&three, 7), Err(Refusal::RowTooShort));
+    assert_eq!(upgrade(&three, 8), Ok(8));
+}
+
+/// The same in the form that is read and written.
 #[test]
 fn deliveries() {
-    let three = [0x04, 0x00, 0x0C, 0x00, 0x00, 0x00, 0x08, 0x08];
-    assert_eq!(decode(&[], 9, 9), Some(Refusal::EndsEarly));
+    let downgrade = |bytes: &[u8], room| moved(downgrade_delivery, bytes, room);
+    let both = |bytes: &[u8]| [decode(bytes, 9, 99), downgrade(bytes, 99).err()];
+    let three = [0x06, 0x00, 0x06, 0x00, 0x00, 0x00, 0x04, 0x04];
+    assert_eq!(both(&[]), [Some(Refusal::EndsEarly); 2]);
+    assert_eq!(both(&three[..7]), [Some(Refusal::EndsEarly); 2]);
+    assert_eq!(both(&[0x00]), [Some(Refusal::NumberOfLists); 2]);
+    assert_eq!(both(&[0x86]), [Some(Refusal::NumberOfLists); 2]);
+    let passes_top = [0x06, 0x00, 0x05, 0xFF, 0xFF, 0xFF, 0xFE, 0x00];
+    assert_eq!(both(&passes_top), [Some(Refusal::GapPassesTop); 2]);
+    let wide = [0x06, 0x00, 0x04, 0x00, 0x00, 0x00, 0x04, 0x10];
+    assert_eq!(both(&wide), [Some(Refusal::WidthNotLeast); 2]);
+    assert_eq!(both(&[0x06, 0x00, 0x00, 0x00]), [Some(Refusal::LeftOver); 2]);
+    assert_eq!(both(&[0x06, 0x00, 0x01]), [Some(Refusal::LeftOver); 2]);
+    assert_eq!(both(&[0x06, 0x00, 0x02]), [Some(Refusal::EndsEarly); 2]);
+    assert_eq!(both(&[0x05]), [Some(Refusal::LeftOver); 2]);
+    assert_eq!(both(&[0x04, 0x00]), [Some(Refusal::LeftOver); 2]);
     assert_eq!(decode(&three, 2, 1), Some(Refusal::RowTooShort));
     assert_eq!(decode(&three, 3, 0), Some(Refusal::RowTooShort));
-    assert_eq!(decode(&[0x00], 9, 9), Some(Refusal::NumberOfLists));
-    assert_eq!(decode(&[0x84], 9, 99), Some(Refusal::NumberOfLists));
-    let passes_top = [0x04, 0x00, 0x0B, 0xFF, 0xFF, 0xFF, 0xFC, 0x00];
-    assert_eq!(decode(&passes_top, 9, 9), Some(Refusal::GapPassesTop));
-    let wide = [0x04, 0x00, 0x08, 0x00, 0x00, 0x00, 0x08, 0x20];
-    assert_eq!(decode(&wide, 9, 9), Some(Refusal::WidthNotLeast));
-    assert_eq!(decode(&[0x04, 0x00, 0x00, 0x00], 9, 9), Some(Refusal::LeftOver));
     assert_eq!(decode(&three, 3, 1), None);
+    // 19 behind all tests of reading, ahead of 6.
+    assert_eq!(decode(&[0x04], 0, 1), None);
+    assert_eq!(downgrade(&[0x04], 0), Err(Refusal::DeliveryIncomplete));
+    assert_eq!(downgrade(&three, 7), Err(Refusal::RowTooShort));
+    assert_eq!(downgrade(&three, 8), Ok(8));
 }
 
 #[test]
@@ -112,14 +161,15 @@ fn lists() {
     assert_eq!(encode(&[1, 2], &[3], 99), Err(Refusal::BadEnds));
     assert_eq!(encode(&[5, 5], &[2], 99), Err(Refusal::NotAscending));
     assert_eq!(encode(&[2, 3, 5], &[3], 7), Err(Refusal::RowTooShort));
-    assert_eq!(encode(&[], &[0; 32], 99), Ok(65));
+    // 6 + 32 * (1 + 16) bits.
+    assert_eq!(encode(&[], &[0; 32], 99), Ok(69));
 }
 
 #[test]
 fn the_longest_list() {
     let numbers: Vec<u32> = (0..65_536).collect();
     assert_eq!(encode(&numbers, &[65_536], 20_000), Err(Refusal::BadEnds));
-    // 6 + 16 + 32 + 5 bits, and 65,534 gaps of one bit.
+    // 6 + 1 + 16 + 32 + 5 bits, and 65,534 gaps of one bit.
     assert_eq!(encode(&numbers, &[65_535], 20_000), Ok(8_200));
 }
 
@@ -136,6 +186,7 @@ fn runs() {
         let result = run(
             &numbers,
             &ends,
+            ALL_DELIVERED,
             &packed(&[0]),
             0,
             &vec![0; codes],
@@ -149,7 +200,7 @@ fn runs() {
 
 #[test]
 fn numbers_and_sentences() {
-    assert!(Refusal::ALL.iter().map(|refusal| refusal.number()).eq(1..=17));
+    assert!(Refusal::ALL.iter().map(|refusal| refusal.number()).eq(1..=19));
     let mut sentences = std::collections::HashSet::new();
     for refusal in Refusal::ALL {
         assert_eq!(Refusal::test(refusal.number()), Err(*refusal));
@@ -161,5 +212,5 @@ fn numbers_and_sentences() {
 #[test]
 #[should_panic(expected = "stands for nothing")]
 fn a_number_that_stands_for_nothing() {
-    let _ = Refusal::test(18);
+    let _ = Refusal::test(20);
 }

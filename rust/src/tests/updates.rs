@@ -2,7 +2,7 @@
 
 use super::{lent, packed, Lists, FIRST, FOURTH};
 use crate::Change::{self, Add, Remove};
-use crate::{ffi, members, update, Refusal};
+use crate::{ffi, members, update, Refusal, ALL_DELIVERED};
 
 const DIFFERENCE: &[u8] = &[64, 0, 1];
 const UNION: &[u8] = &[130, 0, 1];
@@ -21,7 +21,9 @@ struct Console {
 /// Lists and the members of an expression over them, with so many free places behind the numbers and behind the members.
 fn console(lists: &[&[u32]], row: &[u8], free: [usize; 2]) -> Console {
     let Lists { mut numbers, ends } = lent(lists);
-    let mut shown: Vec<u32> = members(&numbers, &ends, &packed(row), 0, 100).unwrap().collect();
+    let mut shown: Vec<u32> = members(&numbers, &ends, ALL_DELIVERED, &packed(row), 0, 100)
+        .unwrap()
+        .collect();
     let count = shown.len();
     numbers.extend((FREE..).take(free[0]));
     shown.extend((FREE..).take(free[1]));
@@ -43,7 +45,7 @@ impl Console {
             members,
             count,
         } = self;
-        let result = update(numbers, ends, &packed(row), list, change, members, count);
+        let result = update(numbers, ends, ALL_DELIVERED, &packed(row), list, change, members, count);
         assert!(result.is_ok() || *self == before, "a refusal wrote");
         result
     }
@@ -56,7 +58,7 @@ impl Console {
             members,
             count,
         } = self;
-        ffi::update(numbers, ends, &packed(row), list, number, add, members, count)
+        ffi::update(numbers, ends, ALL_DELIVERED, &packed(row), list, number, add, members, count)
     }
 }
 
@@ -162,7 +164,7 @@ fn lists_and_expression_refused() {
     let refused = |numbers: &[u32], ends: &[u32], packed: &[u8], list| {
         let (mut numbers, mut ends) = (numbers.to_vec(), ends.to_vec());
         // Nor is the count that of any members: 17 comes later.
-        update(&mut numbers, &mut ends, packed, list, Add(9), &mut [], &mut 9).err()
+        update(&mut numbers, &mut ends, ALL_DELIVERED, packed, list, Add(9), &mut [], &mut 9).err()
     };
     assert_eq!(refused(&[], &[], &[], 0), Some(Refusal::NumberOfLists));
     assert_eq!(refused(&[], &[0; 33], &[], 0), Some(Refusal::NumberOfLists));

@@ -1,9 +1,9 @@
 //! Deliveries read and written, and the part of one list.
 
 use crate::evaluator::delivery as model;
-use crate::evaluator::lists::{self, lent, Lists};
+use crate::evaluator::lists::{self, delivered, lent, Lists};
 use crate::ffi;
-use crate::inputs::{delivery, lent_lists, long_list, longest, room, some_lists};
+use crate::inputs::{absent_bits, delivery, lend, lent_lists, long_list, longest, room, same_word, some_lists};
 use crate::random::{cases, seed, Random};
 use crate::rows::Lent;
 use crate::tally::Tally;
@@ -28,10 +28,11 @@ fn delivery_case(number: u64) -> Delivery {
         let count = random.below(20);
         random.bytes(count)
     } else if random.one_in(2000) {
-        let lists = [some_lists(&mut random), vec![long_list(&mut random)[..65_535].to_vec()]].concat();
+        let long = long_list(&mut random)[..65_535].to_vec();
+        let lists = [some_lists(&mut random), vec![Some(long)]].concat();
         model::encode(&lent(&lists), usize::MAX).unwrap_or_default()
     } else {
-        delivery(&mut random)
+        delivery(&mut random, model::Form::New)
     };
     let (numbers, ends) = match model::decode(&bytes, usize::MAX, 64) {
         Ok(lists) => (lists.numbers.len(), lists.ends.len()),
@@ -50,27 +51,29 @@ fn delivery_case(number: u64) -> Delivery {
 fn compare_delivery(case: &Delivery, expected: &Result<Lists, u32>) {
     let none = Lists::default();
     let number = expected.as_ref().err().copied().unwrap_or(0);
-    let Lists { numbers, ends } = expected.as_ref().unwrap_or(&none);
+    let Lists { numbers, ends, word } = expected.as_ref().unwrap_or(&none);
 
     let (mut numbers_lent, mut ends_lent) = (Lent::new(case.numbers_room), Lent::new(case.ends_room));
     let sent = ffi::decode_delivery(&case.bytes, numbers_lent.row(), ends_lent.row());
-    assert_eq!(
-        (sent.number, sent.lists, sent.numbers),
-        (number, ends.len(), numbers.len()),
-        "{case:#?}"
-    );
+    let parts = ffi::DecodeResult {
+        number,
+        word: *word,
+        lists: ends.len(),
+        numbers: numbers.len(),
+    };
+    assert_eq!(sent, parts, "{case:#?}");
     numbers_lent.assert_holds(numbers, "the numbers", case);
     ends_lent.assert_holds(ends, "the ends", case);
 
     let (mut numbers_lent, mut ends_lent) = (Lent::new(case.numbers_room), Lent::new(case.ends_room));
     let result = zwailmoor::decode_delivery(&case.bytes, numbers_lent.row(), ends_lent.row());
     let parts = result
-        .map(|result| (result.lists, result.numbers))
+        .map(|result| (result.word, result.lists, result.numbers))
         .map_err(|refusal| refusal.number());
     assert_eq!(
         parts,
         if number == 0 {
-            Ok((ends.len(), numbers.len()))
+            Ok((*word, ends.len(), numbers.len()))
         } else {
             Err(number)
         },
@@ -78,6 +81,19 @@ fn compare_delivery(case: &Delivery, expected: &Result<Lists, u32>) {
     );
     numbers_lent.assert_holds(numbers, "the numbers by the wrapper", case);
     ends_lent.assert_holds(ends, "the ends by the wrapper", case);
+}
+
+/// Accepted lists of each kind: not delivered, and delivered but empty.
+fn delivered_edges(tally: &mut Tally, lists: &Lists) {
+    let count = lists.ends.len();
+    let came = |k: &usize| delivered(lists.word, *k);
+    let empty = |k: &usize| lists::part(lists, *k).is_empty();
+    tally.edge("all delivered", (0..count).all(|k| came(&k)));
+    tally.edge("none delivered", !(0..count).any(|k| came(&k)));
+    tally.edge("the first list not delivered", count > 1 && !came(&0));
+    tally.edge("the last list not delivered", count > 1 && !came(&(count - 1)));
+    tally.edge("delivered and empty", (0..count).any(|k| came(&k) && empty(&k)));
+    tally.edge("32 lists, some not delivered", count == 32 && lists.word != u32::MAX);
 }
 
 #[test]
@@ -88,12 +104,13 @@ fn decode_delivery() {
         let expected = model::decode(&case.bytes, case.numbers_room, case.ends_room);
         compare_delivery(&case, &expected);
         if let Ok(lists) = &expected {
-            let Lists { numbers, ends } = lists;
+            let Lists { numbers, ends, word } = lists;
             let mut back = vec![0; case.bytes.len()];
-            let length = zwailmoor::encode_delivery(numbers, ends, &mut back);
+            let length = zwailmoor::encode_delivery(numbers, ends, *word, &mut back);
             assert_eq!((length, &back), (Ok(back.len()), &case.bytes), "written back: {case:#?}");
             tally.edge("32 lists", ends.len() == 32);
             tally.edge("a list of 65,535", longest(lists) == 65_535);
+            delivered_edges(&mut tally, lists);
             tally.edge(
                 "both rows exact",
                 numbers.len() == case.numbers_room && ends.len() == case.ends_room,
@@ -119,8 +136,8 @@ fn lists_case(salt: u64, number: u64) -> Case {
     let lists = if random.one_in(2000) {
         let place = random.below(3);
         let mut lists = some_lists(&mut random);
-        lists.insert(place.min(lists.len()), long_list(&mut random));
-        lent(&lists)
+        lists.insert(place.min(lists.len()), Some(long_list(&mut random)));
+        lend(&mut random, &lists)
     } else {
         lent_lists(&mut random)
     };
@@ -139,19 +156,20 @@ fn lists_case(salt: u64, number: u64) -> Case {
     }
 }
 
+/// The C call is given the word, and the wrapper another one that says the same.
 fn compare_lists(case: &Case, expected: &Result<Vec<u8>, u32>) {
-    let Lists { numbers, ends } = &case.lists;
+    let Lists { numbers, ends, word } = &case.lists;
     let (number, written): (u32, &[u8]) = match expected {
         Ok(written) => (0, written),
         Err(number) => (*number, &[]),
     };
     let mut lent = Lent::new(case.room);
-    let sent = ffi::encode_delivery(numbers, ends, lent.row());
+    let sent = ffi::encode_delivery(numbers, ends, *word, lent.row());
     assert_eq!((sent.number, sent.count), (number, written.len()), "{case:#?}");
     lent.assert_holds(written, "the bytes", case);
 
     let mut lent = Lent::new(case.room);
-    let result = zwailmoor::encode_delivery(numbers, ends, lent.row());
+    let result = zwailmoor::encode_delivery(numbers, ends, same_word(*word, ends.len()), lent.row());
     let count = if number == 0 { Ok(written.len()) } else { Err(number) };
     assert_eq!(result.map_err(|refusal| refusal.number()), count, "{case:#?}");
     lent.assert_holds(written, "the bytes by the wrapper", case);
@@ -168,6 +186,21 @@ fn compare_read_back(case: &Case, written: &[u8]) {
         (&lists.numbers[..used], &lists.ends[..]),
         "read back: {case:#?}"
     );
+    let word = lists.word & !absent_bits(lists.ends.len());
+    assert_eq!(read.word, word, "read back: {case:#?}");
+}
+
+/// What the word alone refuses.
+fn word_edges(tally: &mut Tally, lists: &Lists) {
+    let all_came = Lists {
+        word: u32::MAX,
+        ..lists.clone()
+    };
+    let refused = lists::accepted(lists).err();
+    let otherwise = lists::accepted(&all_came).err();
+    tally.edge("10 by the word", refused == Some(10) && otherwise.is_none());
+    tally.edge("10 by the word ahead of 11", refused == Some(10) && otherwise == Some(11));
+    tally.edge("7 ahead of 10 by the word", refused == Some(7) && lists.word == 0);
 }
 
 #[test]
@@ -187,7 +220,9 @@ fn encode_delivery() {
                 lists.ends.last() < Some(&(lists.numbers.len() as u32)),
             );
             tally.edge("an exact row", written.len() == case.room);
+            delivered_edges(&mut tally, lists);
         }
+        word_edges(&mut tally, lists);
         tally.count(&expected);
     }
     tally.close("encode_delivery", seed(), ENCODE_REFUSALS);
@@ -198,14 +233,21 @@ fn list_part() {
     let mut tally = Tally::default();
     for number in 0..cases() {
         let case = lists_case(5, number);
-        let Lists { numbers, ends } = &case.lists;
+        let Lists { numbers, ends, word } = &case.lists;
         let expected = lists::part(&case.lists, case.list);
-        let span = ffi::list_span(numbers, ends, case.list);
+        let span = ffi::list_span(numbers, ends, *word, case.list);
         assert_eq!((span.start, span.size), (expected.start, expected.len()), "{case:#?}");
-        let part = zwailmoor::list_part(numbers, ends, case.list);
-        assert_eq!(part.as_ptr_range(), numbers[expected].as_ptr_range(), "{case:#?}");
+        let part = zwailmoor::list_part(numbers, ends, same_word(*word, ends.len()), case.list);
+        assert_eq!(part.as_ptr_range(), numbers[expected.clone()].as_ptr_range(), "{case:#?}");
         let accepted = lists::accepted(&case.lists);
         tally.edge("no such list", accepted.is_ok() && case.list >= ends.len());
+        let there = accepted.is_ok() && case.list < ends.len();
+        let inside = expected.start > 0;
+        tally.edge(
+            "not delivered, at its own place",
+            there && inside && !delivered(*word, case.list),
+        );
+        word_edges(&mut tally, &case.lists);
         tally.count(&accepted);
     }
     // No refusal comes of this call: these are the lists' own, for which the part is empty.

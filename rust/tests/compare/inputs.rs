@@ -3,8 +3,8 @@
 use std::collections::BTreeSet;
 
 use crate::evaluator::bits::Writer;
-use crate::evaluator::delivery::{least_width, write_list};
-use crate::evaluator::lists::{lent, Lists};
+use crate::evaluator::delivery::{least_width, write_list, Form};
+use crate::evaluator::lists::{delivered, lent, Each, Lists};
 use crate::random::Random;
 
 /// Lengths about what is needed: too short, exact, longer.
@@ -24,6 +24,24 @@ pub fn list_count(random: &mut Random, usual: usize) -> usize {
         1 => random.pick(&[1, 31, 32]),
         _ => usual,
     }
+}
+
+/// The bits of a word for which no list is there.
+pub fn absent_bits(lists: usize) -> u32 {
+    let lists = u32::try_from(lists).unwrap_or(u32::MAX);
+    u32::MAX.checked_shr(lists).unwrap_or(0)
+}
+
+/// The word of so many lists with any bits for those that are not there.
+pub fn any_absent_bits(random: &mut Random, word: u32, lists: usize) -> u32 {
+    let any = random.next() as u32;
+    let bits = random.pick(&[0, u32::MAX, any, any]);
+    word & !absent_bits(lists) | bits & absent_bits(lists)
+}
+
+/// A word that says the same of so many lists: every bit of a list that is not there is turned.
+pub fn same_word(word: u32, lists: usize) -> u32 {
+    word ^ absent_bits(lists)
 }
 
 /// An expression's nodes in row form, over so many lists.
@@ -118,10 +136,24 @@ pub fn packed_anyway(row: &[u8]) -> Vec<u8> {
     bits.bytes()
 }
 
-/// A packed expression over so many lists: mostly good, sometimes over one list more, or damaged.
-pub fn packed(random: &mut Random, lists: usize) -> Vec<u8> {
-    let over = if random.one_in(20) { lists + 1 } else { lists };
-    let mut bytes = packed_anyway(&expression_row(random, over));
+/// Has every leaf that names a list which was not delivered name one that was, if there is any.
+pub fn name_delivered(random: &mut Random, lists: &Lists, row: &mut [u8]) {
+    let there = 0..lists.ends.len().min(32) as u8;
+    let came = |list: &u8| delivered(lists.word, usize::from(*list));
+    let all: Vec<u8> = there.clone().filter(came).collect();
+    for leaf in row.iter_mut().filter(|node| there.contains(node) && !came(node)) {
+        *leaf = if all.is_empty() { *leaf } else { random.pick(&all) };
+    }
+}
+
+/// A packed expression over lists: mostly good, sometimes over one list more or one that was not delivered, or damaged.
+pub fn packed(random: &mut Random, lists: &Lists) -> Vec<u8> {
+    let over = lists.ends.len() + usize::from(random.one_in(20));
+    let mut row = expression_row(random, over);
+    if !random.one_in(4) {
+        name_delivered(random, lists, &mut row);
+    }
+    let mut bytes = packed_anyway(&row);
     if random.one_in(12) {
         damage(random, &mut bytes);
     }
@@ -190,15 +222,26 @@ pub fn list(random: &mut Random) -> Vec<u32> {
     numbers.into_iter().collect()
 }
 
-/// 1 to 32 lists, sometimes none or 33.
-pub fn some_lists(random: &mut Random) -> Vec<Vec<u32>> {
+/// 1 to 32 lists, sometimes none or 33; one time in three some were not delivered.
+pub fn some_lists(random: &mut Random) -> Each {
     let count = match random.below(40) {
         0 => random.pick(&[0, 33, 33]),
         1 => 32,
         2 => random.between(8, 31),
         _ => random.between(1, 5),
     };
-    (0..count).map(|_| list(random)).collect()
+    let failed = random.pick(&[None, None, None, None, Some(2), Some(4)]);
+    let came = |random: &mut Random| !failed.is_some_and(|times| random.one_in(times));
+    (0..count).map(|_| came(random).then(|| list(random))).collect()
+}
+
+/// Lists as they are lent, with any bits for lists that are not there.
+pub fn lend(random: &mut Random, lists: &Each) -> Lists {
+    let lists = lent(lists);
+    Lists {
+        word: any_absent_bits(random, lists.word, lists.ends.len()),
+        ..lists
+    }
 }
 
 /// A list of about the greatest length: 65,535 is accepted, 65,536 is not.
@@ -218,7 +261,8 @@ pub fn longest(Lists { ends, .. }: &Lists) -> u32 {
 
 /// Lists as they are lent: mostly good, else with something wrong, or two things.
 pub fn lent_lists(random: &mut Random) -> Lists {
-    let mut lists = lent(&some_lists(random));
+    let lists = some_lists(random);
+    let mut lists = lend(random, &lists);
     if random.one_in(6) {
         let behind = random.between(1, 3);
         lists.numbers.extend((0..behind).map(|_| number(random)));
@@ -231,8 +275,8 @@ pub fn lent_lists(random: &mut Random) -> Lists {
     lists
 }
 
-fn spoil(random: &mut Random, Lists { numbers, ends }: &mut Lists) {
-    match random.below(5) {
+fn spoil(random: &mut Random, Lists { numbers, ends, word }: &mut Lists) {
+    match random.below(7) {
         0 if !ends.is_empty() => {
             let at = random.below(ends.len());
             ends[at] = ends[at].wrapping_add(random.pick(&[1, 2, u32::MAX, u32::MAX - 1, 1 << 31]));
@@ -249,23 +293,28 @@ fn spoil(random: &mut Random, Lists { numbers, ends }: &mut Lists) {
             let at = random.below(numbers.len());
             numbers[at] = number(random);
         }
+        4 if !ends.is_empty() => *word ^= 1 << (31 - random.below(ends.len().min(32))),
+        5 => *word = random.pick(&[0, u32::MAX, word.reverse_bits(), !*word]),
         _ => {
             numbers.pop();
         }
     }
 }
 
-/// A delivery: mostly well packed, else with a wrong count, a wrong width, or gaps that pass the top.
-pub fn delivery(random: &mut Random) -> Vec<u8> {
+/// A delivery in a form: mostly well packed, else with a wrong count, a wrong width, or gaps that pass the top.
+pub fn delivery(random: &mut Random, form: Form) -> Vec<u8> {
     let lists = some_lists(random);
     let mut bits = Writer::default();
     let count = if random.one_in(30) { random.below(64) } else { lists.len() };
     bits.put(count as u64, 6);
-    for list in &lists {
-        if random.one_in(10) {
-            odd_list(random, list, &mut bits);
-        } else {
-            write_list(&mut bits, list);
+    for list in lists {
+        if form == Form::New {
+            bits.put(u64::from(list.is_some()), 1);
+        }
+        match list {
+            None if form == Form::New => {}
+            Some(list) if random.one_in(10) => odd_list(random, &list, &mut bits),
+            list => write_list(&mut bits, &list.unwrap_or_default()),
         }
     }
     let mut bytes = bits.bytes();

@@ -7,6 +7,7 @@ mod deliveries;
 mod evaluator;
 mod expressions;
 mod inputs;
+mod moves;
 mod random;
 mod rows;
 mod runs;
@@ -25,6 +26,8 @@ fn every_refusal_belongs_to_a_call() {
         expressions::PACK_REFUSALS,
         deliveries::DECODE_REFUSALS,
         deliveries::ENCODE_REFUSALS,
+        moves::UPGRADE_REFUSALS,
+        moves::DOWNGRADE_REFUSALS,
         runs::REFUSALS,
         updates::REFUSALS,
     ];

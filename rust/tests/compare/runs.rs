@@ -1,16 +1,16 @@
 //! Runs, whole and broken off, and the iterator over pages.
 
-use crate::evaluator::lists::{lent, Lists};
+use crate::evaluator::lists::Lists;
 use crate::evaluator::{self, Begin, RunResult, TOP};
 use crate::ffi;
-use crate::inputs::{lent_lists, long_list, longest, number, number_near, packed, some_lists};
+use crate::inputs::{absent_bits, lend, lent_lists, long_list, longest, number, number_near, packed, same_word, some_lists};
 use crate::random::{cases, seed, Random};
 use crate::rows::Lent;
 use crate::tally::Tally;
 use zwailmoor::Reply;
 
 /// The refusals that a run can give.
-pub const REFUSALS: &[usize] = &[1, 2, 3, 4, 5, 7, 10, 11, 12, 13];
+pub const REFUSALS: &[usize] = &[1, 2, 3, 4, 5, 7, 10, 11, 12, 13, 18];
 
 /// What is replied where it is no member.
 const REPLIES: [(&str, u64); 4] = [("no", TOP), ("yes", TOP + 1), ("finished", TOP + 2), ("unknown", TOP + 3)];
@@ -69,14 +69,15 @@ fn calls(random: &mut Random, numbers: &[u32]) -> (Vec<u8>, Vec<u32>) {
 fn case(number: u64) -> Run {
     let mut random = Random::of_case(seed() ^ 6, number);
     let lists = if random.one_in(4000) {
-        let lists = [some_lists(&mut random), vec![long_list(&mut random)]].concat();
-        lent(&lists)
+        let lists = [some_lists(&mut random), vec![Some(long_list(&mut random))]].concat();
+        lend(&mut random, &lists)
     } else if random.one_in(2) {
-        lent(&some_lists(&mut random))
+        let lists = some_lists(&mut random);
+        lend(&mut random, &lists)
     } else {
         lent_lists(&mut random)
     };
-    let packed = packed(&mut random, lists.ends.len());
+    let packed = packed(&mut random, &lists);
     let (mut codes, mut arguments) = calls(&mut random, &lists.numbers);
     let mut room = codes.len() + random.pick(&[0, 0, 1, 4]);
     match random.below(40) {
@@ -101,7 +102,8 @@ impl Run {
         evaluator::run(&self.lists, &self.packed, self.begin, &self.codes, &self.arguments, self.room)
     }
 
-    /// Every part of what both interfaces send back, and the whole row of replies.
+    /// Every part of what both interfaces send back, and the whole row of replies. The C call is given the word, and the wrapper
+    /// another one that says the same.
     fn compare(&self, expected: &Result<RunResult, u32>) {
         let refused = RunResult {
             replies: vec![],
@@ -117,7 +119,7 @@ impl Run {
 
     fn compare_raw(&self, number: u32, expected: &RunResult) {
         let Run {
-            lists: Lists { numbers, ends },
+            lists: Lists { numbers, ends, word },
             packed,
             begin: Begin { bookmark },
             codes,
@@ -125,7 +127,7 @@ impl Run {
             ..
         } = self;
         let mut lent = Lent::new(self.room);
-        let sent = ffi::run(numbers, ends, packed, *bookmark, codes, arguments, lent.row());
+        let sent = ffi::run(numbers, ends, *word, packed, *bookmark, codes, arguments, lent.row());
         let parts = ffi::RunResult {
             number,
             moves: expected.moves,
@@ -138,7 +140,7 @@ impl Run {
 
     fn compare_wrapper(&self, number: u32, expected: &RunResult) {
         let Run {
-            lists: Lists { numbers, ends },
+            lists: Lists { numbers, ends, word },
             packed,
             begin: Begin { bookmark },
             codes,
@@ -146,7 +148,8 @@ impl Run {
             ..
         } = self;
         let mut lent = Lent::new(self.room);
-        let result = zwailmoor::run(numbers, ends, packed, *bookmark, codes, arguments, lent.row());
+        let word = same_word(*word, ends.len());
+        let result = zwailmoor::run(numbers, ends, word, packed, *bookmark, codes, arguments, lent.row());
         let sent = result
             .map(|result| (result.moves, result.places, result.bookmark))
             .map_err(|refusal| refusal.number());
@@ -182,9 +185,9 @@ impl Run {
 
     /// The iterator, in pages of some size, against the set.
     fn compare_members(&self, page: usize) {
-        let Lists { numbers, ends } = &self.lists;
+        let Lists { numbers, ends, word } = &self.lists;
         let Begin { bookmark } = self.begin;
-        let members = zwailmoor::members(numbers, ends, &self.packed, bookmark, page);
+        let members = zwailmoor::members(numbers, ends, *word, &self.packed, bookmark, page);
         // One more than there can be, so that an iterator that does not end is seen.
         let most = numbers.len() + 1;
         let drawn = members.map(|members| members.take(most).collect::<Vec<u32>>());
@@ -199,7 +202,9 @@ impl Run {
 /// What a good many cases must have had, all accepted.
 fn edges(tally: &mut Tally, case: &Run, result: &RunResult) {
     let lists = case.lists.ends.len();
-    let tree = evaluator::expression::read_packed(&case.packed, lists).expect("an accepted expression");
+    let word = case.lists.word;
+    let tree = evaluator::expression::read_packed(&case.packed, lists, word).expect("an accepted expression");
+    tally.edge("a list not named and not delivered", word | absent_bits(lists) != u32::MAX);
     tally.edge("32 lists", lists == 32);
     tally.edge("a list of 65,535", longest(&case.lists) == 65_535);
     tally.edge("bookmark at the top", case.begin.bookmark == TOP);
@@ -209,6 +214,21 @@ fn edges(tally: &mut Tally, case: &Run, result: &RunResult) {
     for (name, reply) in REPLIES {
         tally.edge(name, result.replies.contains(&reply));
     }
+}
+
+/// What would have been refused if every list had been delivered.
+fn refused_edges(tally: &mut Tally, case: &Run, refused: u32) {
+    if refused != 10 && refused != 18 {
+        return;
+    }
+    let mut all_came = case.clone();
+    all_came.lists.word = u32::MAX;
+    let otherwise = all_came.expected().err();
+    tally.edge("10 by the word", refused == 10 && otherwise.is_none());
+    tally.edge("10 by the word ahead of 11", refused == 10 && otherwise == Some(11));
+    tally.edge("18 and nothing else", refused == 18 && otherwise.is_none());
+    tally.edge("18 ahead of 12", refused == 18 && otherwise == Some(12));
+    tally.edge("18 ahead of 13", refused == 18 && otherwise == Some(13));
 }
 
 /// The package has no reply that the runs here need not meet.
@@ -231,6 +251,7 @@ fn run() {
             case.compare_broken_off(whole, random.below(case.codes.len() + 1));
             edges(&mut tally, &case, whole);
         }
+        refused_edges(&mut tally, &case, expected.as_ref().err().copied().unwrap_or(0));
         let iterated = random.one_in(4) && case.lists.numbers.len() < 2000;
         if iterated {
             case.compare_members(random.pick(&[0, 1, 2, 3, 7, 1000]));

@@ -1,35 +1,53 @@
 -- `decode::decode_delivery` meets its contract: test by test, in the order of `Delivery.read-delivery`; the rows are written only
 -- once all of it is known to read. Assumes nothing.
 use borrow.Author.Needs.{needs}
-use mathlib.Core.Path.{_≡_, sym, ap, ap₂, _∙_}
+use mathlib.Core.Path.{_≡_, sym, ap, ap₂, _∙_, subst}
 use mathlib.Core.Bool.{true, false}
-use mathlib.Core.List.{List}
-use Prim.Native.Nat.{ℕ, _*_, _≤_}
+use mathlib.Core.List.{List, map}
+use mathlib.Core.Option.{some}
+use Prim.Native.Nat.{ℕ, _-_, _*_, _^_, _≤_, _<_}
 use native.Mathlib.Omega.{arith}
-use lib.ListN.{length, drop}
+use lib.ListN.{length, length-map, drop}
 use borrow.Author.Tests.{not-true, not-false}
 use Rattle.model.specs.Outcome.{Outcome, number-of, accepted, _>>=_, _>>_, require}
 use Rattle.model.specs.declared.DecodeResult.{DecodeResult}
 use Rattle.model.specs.Lists.{count-holds}
-use Rattle.model.specs.Fields.{bits, only-fill}
+use Rattle.model.specs.Fields.{value, bits, only-fill}
 use Rattle.model.specs.Sets.{all-numbers}
-use Rattle.model.specs.Delivery.{read-delivery}
-use Rattle.model.specs.Calls.{delivered-refused, delivered}
+use Rattle.model.specs.Delivery.{Supplied, supplied-numbers, is-delivered, by-bit, read-delivery, word-of}
+use Rattle.model.specs.Calls.{decoded-refused, decoded}
+use Rattle.model.proofs.Accepted.{value-lt}
 use Rattle.lists.proofs.Spans.{counts}
 use Rattle.fields.specs.Positions.{take-at, field-says}
 use Rattle.fields.proofs.Fields.{took}
-use Rattle.decode.specs.Heads.{read-lists}
-use Rattle.decode.specs.declared.Read.{Read}
-use Rattle.decode.specs.Answers.{read-says, total}
-use Rattle.decode.proofs.Reading.{Kept, kept, lost}
-use Rattle.decode.proofs.Bounds.{All, lists-next}
-use Rattle.decode.proofs.Whole.{reads-no-number, reads-wrong-number, reads-too-many, reads-on, refuses, success}
+use Rattle.walk.specs.declared.Counted.{Counted}
+use Rattle.walk.specs.Counts.{all-counted, read-lists}
+use Rattle.walk.specs.Answers.{counted-says}
+use Rattle.walk.proofs.Reading.{Kept, kept, lost}
+use Rattle.walk.proofs.Bounds.{All, lists-next, by-bit-ahead}
+use Rattle.decode.proofs.Whole.{reads-no-number, reads-wrong-number, reads-too-many, reads-on, word-is, refuses, success}
 use Rattle.decode.proofs.decode_delivery.Statement.{statement}
 use Rattle.decode.proofs.decode_delivery.Tie as tie
 
--- a delivered-refused handed back
-handed : (numbers ends : List ℕ) {r : DecodeResult} {n : ℕ} → r ≡ delivered-refused n → delivered r numbers ends ≡ delivered (delivered-refused n) numbers ends
-handed numbers ends e = ap (λ (x : DecodeResult). delivered x numbers ends) e
+-- a refusal handed back
+handed : (numbers ends : List ℕ) {r : DecodeResult} {n : ℕ} → r ≡ decoded-refused n → decoded r numbers ends ≡ decoded (decoded-refused n) numbers ends
+handed numbers ends e = ap (λ (x : DecodeResult). decoded x numbers ends) e
+
+-- what lists are counted as: their bits, which have a place each and make the word, and their numbers
+record Told (ss : List Supplied) (n b count : ℕ) : Type 0 where
+  small : b < 2 ^ n
+  word : b * 2 ^ (32 - n) ≡ word-of ss
+  numbers : count ≡ length (all-numbers (map supplied-numbers ss))
+
+told-by : (ss : List Supplied) (n b count : ℕ) → length ss ≡ n → all-counted ss ≡ (b, count) → Told ss n b count
+unfolding all-counted
+told-by ss n b count many e =
+    let bs : value (map is-delivered ss) ≡ b = ap (λ (p : ℕ × ℕ). p .0) e in
+    record {
+      small = subst (λ (k : ℕ). b < 2 ^ k) (length-map ss is-delivered ∙ many) (subst (λ (v : ℕ). v < 2 ^ length (map is-delivered ss)) bs (value-lt (map is-delivered ss)));
+      word = ap₂ (λ (v k : ℕ). v * 2 ^ (32 - k)) (sym bs) (sym many) ∙ sym (word-is ss);
+      numbers = sym (ap (λ (p : ℕ × ℕ). p .1) e);
+    }
 
 -- how many lists there are
 number-read : (c : tie.After-known-told) → take-at (c .before .before .before .before .before .before .before .args .bytes .now) 6 0 ≡ accepted (c .before .n .given .0 .0, c .before .n .given .0 .1 .0)
@@ -42,7 +60,7 @@ holds : (c : tie.Else1) → count-holds (c .before .before .before .before .n .g
 holds c = ap count-holds (sym (c .before .before .wide .ensures)) ∙ sym (c .before .count-holds .ensures) ∙ not-false _ (c .if1 .left)
 
 -- reading goes on with the lists
-on : (c : tie.Else2) {o : Outcome (List (List ℕ) × ℕ)} → let told = c .before .before .before .before in let args = told .before .before .before .before .before .before .before .args in
+on : (c : tie.Else2) {o : Outcome (List Supplied × ℕ)} → let told = c .before .before .before .before in let args = told .before .before .before .before .before .before .before .args in
     read-lists (take-at (args .bytes .now)) (told .before .n .given .0 .0) (length (args .numbers .now)) (told .before .n .given .0 .1 .0) ≡ o
     → read-delivery (length (args .numbers .now)) (length (args .ends .now)) (args .bytes .now) ≡ (o >>= λ r. (require 5 (only-fill (drop (r .1) (bits (args .bytes .now)))) >> accepted (r .0)))
 on c e =
@@ -52,12 +70,15 @@ on c e =
 
 -- the lists that were walked through
 walked : (c : tie.After-known-told2) → let e = c .before .before .before .before in let t = e .before .before .before .before in
-    Kept total (read-lists (take-at (t .before .before .before .before .before .before .before .args .bytes .now)) (t .before .n .given .0 .0) (length (t .before .before .before .before .before .before .before .args .numbers .now)) (t .before .n .given .0 .1 .0)) (c .before .walk .given .0 .0) (c .before .walk .given .0 .1 .0)
-walked c = kept _ _ _ _ (sym (c .before .before .before .walk-lists .ensures) ∙ ap read-says (c .before .walk .given .1))
+    Kept all-counted (read-lists (take-at (t .before .before .before .before .before .before .before .args .bytes .now)) (t .before .n .given .0 .0) (length (t .before .before .before .before .before .before .before .args .numbers .now)) (t .before .n .given .0 .1 .0)) (c .before .walked .given .0 .0, c .before .walked .given .0 .1 .0) (c .before .walked .given .0 .1 .1 .0)
+walked c = kept _ _ _ _ (sym (c .before .before .before .walk-lists .ensures) ∙ ap counted-says (c .before .walked .given .1))
 
 walked-next : (c : tie.After-known-told2) → let e = c .before .before .before .before in let t = e .before .before .before .before in
-    All (t .before .before .before .before .before .before .before .args .bytes .now) (t .before .n .given .0 .0) (t .before .n .given .0 .1 .0) (walked c .got, c .before .walk .given .0 .1 .0)
-walked-next c = let t = c .before .before .before .before .before .before .before .before in lists-next (t .before .before .before .before .before .before .before .args .bytes .now) (t .before .n .given .0 .0) (length (t .before .before .before .before .before .before .before .args .numbers .now)) (t .before .n .given .0 .1 .0) _ (walked c .read) (omega (arith, six t))
+    All (t .before .before .before .before .before .before .before .args .bytes .now) (t .before .n .given .0 .0) (t .before .n .given .0 .1 .0) (walked c .got, c .before .walked .given .0 .1 .1 .0)
+walked-next c = let t = c .before .before .before .before .before .before .before .before in lists-next by-bit (t .before .before .before .before .before .before .before .args .bytes .now) (by-bit-ahead _) (t .before .n .given .0 .0) (some (length (t .before .before .before .before .before .before .before .args .numbers .now))) (t .before .n .given .0 .1 .0) _ (walked c .read) (omega (arith, six t))
+
+lists-told : (c : tie.After-known-told2) → Told (walked c .got) (c .before .before .before .before .before .before .before .before .before .n .given .0 .0) (c .before .walked .given .0 .0) (c .before .walked .given .0 .1 .0)
+lists-told c = told-by (walked c .got) _ _ _ (walked-next c .many) (walked c .is)
 
 take-field-requires : tie.Need-take-field-requires
 take-field-requires c κs = search needs
@@ -108,8 +129,8 @@ returns-3 d =
 walk-lists-requires : tie.Need-walk-lists-requires
 walk-lists-requires c κs = (counts _ (holds (c .before)) .1, omega (arith, six (c .before .before .before .before) .0))
 
-enum-known-walk : tie.Need-enum-known-walk
-enum-known-walk c = search needs
+enum-known-walked : tie.Need-enum-known-walked
+enum-known-walked c = search needs
 
 enum-told-2 : tie.Need-enum-told-2
 enum-told-2 c = search needs
@@ -128,8 +149,8 @@ returns-4 d =
     let args = w .before .before .before .before .before .before .before .before .before .before .before .before .args in
     let told = c .before .enum-told2 .given .1 in
     handed (args .numbers .now) (args .ends .now) (d .refused4 .ensures)
-    ∙ ap (λ (n : ℕ). delivered (record { number = n; lists = 0; numbers = 0 }) (args .numbers .now) (args .ends .now)) (c .number-of .ensures ∙ ap (λ (r : Read). number-of (read-says r)) told)
-    ∙ refuses (args .bytes .now) (args .numbers .now) (args .ends .now) (on (w .before) (lost _ _ _ (sym (w .walk-lists .ensures) ∙ ap read-says told)))
+    ∙ ap (λ (n : ℕ). decoded (decoded-refused n) (args .numbers .now) (args .ends .now)) (c .number-of .ensures ∙ ap (λ (r : Counted). number-of (counted-says r)) told)
+    ∙ refuses (args .bytes .now) (args .numbers .now) (args .ends .now) (on (w .before) (lost _ _ _ (sym (w .walk-lists .ensures) ∙ ap counted-says told)))
 
 only-fill-requires : tie.Need-only-fill-requires
 only-fill-requires c κs = let w = walked-next c in (w .inside, omega (arith, w .near, six (c .before .before .before .before .before .before .before .before)))
@@ -142,7 +163,7 @@ returns-5 d =
     let c = d .before in
     let told2 = c .before .before in
     let args = told2 .before .before .before .before .before .before .before .before .before .before .before .before .before .before .before .args in
-    let fill : only-fill (drop (told2 .before .walk .given .0 .1 .0) (bits (args .bytes .now))) ≡ false = sym (c .before .only-fill .ensures) ∙ not-true _ (c .if3 .taken) in
+    let fill : only-fill (drop (told2 .before .walked .given .0 .1 .1 .0) (bits (args .bytes .now))) ≡ false = sym (c .before .only-fill .ensures) ∙ not-true _ (c .if3 .taken) in
     handed (args .numbers .now) (args .ends .now) (d .refused5 .ensures)
     ∙ refuses (args .bytes .now) (args .numbers .now) (args .ends .now) (on (told2 .before .before .before .before) (walked told2 .read) ∙ rw fill)
 
@@ -154,8 +175,14 @@ store-lists-requires c κs =
       counts _ (holds (e .before)) .1,
       omega (arith, six (told2 .before .before .before .before .before .before .before .before)),
       omega (arith, e .before .before .before .wide .ensures, e .if2 .left),
-      record { lists = w .got; next = told2 .before .walk .given .0 .1 .0; read = w .read },
+      record { lists = w .got; next = told2 .before .walked .given .0 .1 .1 .0; read = w .read },
     )
+
+word-of-requires : tie.Need-word-of-requires
+word-of-requires c κs =
+    let told2 = c .before .before .before .before .before .before .before .before .before in
+    let n = counts _ (holds (told2 .before .before .before .before .before)) in
+    (n .0, n .1, lists-told told2 .small)
 
 wide-requires-2 : tie.Need-wide-requires-2
 wide-requires-2 c κs = search needs
@@ -167,18 +194,21 @@ same-length-2 : tie.Need-same-length-2
 same-length-2 c = search needs
 
 returns-6 : tie.Need-returns-6
-unfolding total
 returns-6 c =
-    let st = c .before .before .before .before .before in
+    let st = c .before .before .before .before .before .before in
     let told2 = st .before .before .before .before .before in
     let args = told2 .before .before .before .before .before .before .before .before .before .before .before .before .before .before .before .args in
     let w = walked told2 in
-    let rows = st .store-lists .ensures (w .got) (told2 .before .walk .given .0 .1 .0) (w .read) in
-    let fill : only-fill (drop (told2 .before .walk .given .0 .1 .0) (bits (args .bytes .now))) ≡ true = sym (st .before .before .before .before .only-fill .ensures) ∙ not-false _ (st .before .before .before .if3 .left) in
+    let t = lists-told told2 in
+    let ls : List (List ℕ) = map supplied-numbers (w .got) in
+    let rows = st .store-lists .ensures (w .got) (told2 .before .walked .given .0 .1 .1 .0) (w .read) in
+    let fill : only-fill (drop (told2 .before .walked .given .0 .1 .1 .0) (bits (args .bytes .now))) ≡ true = sym (st .before .before .before .before .only-fill .ensures) ∙ not-false _ (st .before .before .before .if3 .left) in
     let lists : told2 .before .before .before .before .before .before .before .wide .result ≡ length (w .got) = told2 .before .before .before .before .before .before .before .wide .ensures ∙ sym (walked-next told2 .many) in
-    let numbers : c .wide2 .result ≡ length (all-numbers (w .got)) = c .wide2 .ensures ∙ sym (w .is) in
-    ap₂ (λ (a b : ℕ). delivered (record { number = 0; lists = a; numbers = b }) (st .store-lists .last .1 .1 .1 .0) (st .store-lists .last .1 .1 .1 .1 .0)) lists numbers
-    ∙ ap₂ (λ (a b : List ℕ). delivered (record { number = 0; lists = length (w .got); numbers = length (all-numbers (w .got)) }) a b) (rows .0) (rows .1)
+    let numbers : c .wide2 .result ≡ length (all-numbers ls) = c .wide2 .ensures ∙ t .numbers in
+    let word : c .before .word-of .result ≡ word-of (w .got) = c .before .word-of .ensures ∙ t .word in
+    ap (λ (x : ℕ). decoded (record { number = 0; word = x; lists = told2 .before .before .before .before .before .before .before .wide .result; numbers = c .wide2 .result }) (st .store-lists .last .1 .1 .1 .0) (st .store-lists .last .1 .1 .1 .1 .0)) word
+    ∙ ap₂ (λ (a b : ℕ). decoded (record { number = 0; word = word-of (w .got); lists = a; numbers = b }) (st .store-lists .last .1 .1 .1 .0) (st .store-lists .last .1 .1 .1 .1 .0)) lists numbers
+    ∙ ap₂ (λ (a b : List ℕ). decoded (record { number = 0; word = word-of (w .got); lists = length (w .got); numbers = length (all-numbers ls) }) a b) (rows .0) (rows .1)
     ∙ success (args .bytes .now) (args .numbers .now) (args .ends .now) (on (told2 .before .before .before .before) (w .read) ∙ rw fill)
 
 pub decode-delivery-spec : {M : Type 1} → statement M
@@ -197,7 +227,7 @@ decode-delivery-spec =
     refused-requires-3
     returns-3
     walk-lists-requires
-    enum-known-walk
+    enum-known-walked
     enum-told-2
     number-of-requires
     refused-requires-4
@@ -206,6 +236,7 @@ decode-delivery-spec =
     refused-requires-5
     returns-5
     store-lists-requires
+    word-of-requires
     wide-requires-2
     same-length
     same-length-2

@@ -12,10 +12,10 @@ use Rattle.model.proofs.Accepted.{never-accepted, accepted-same}
 use Rattle.fields.specs.Rows.{lay}
 use Rattle.fields.specs.Positions.{take-at}
 use Rattle.fields.proofs.Rows.{lay-nil, lay-cons}
-use Rattle.decode.specs.Heads.{gap}
-use Rattle.decode.specs.Answers.{read-says}
-use Rattle.decode.proofs.Reading.{gaps-none, gaps-stop, gaps-rest}
-use Rattle.decode.proofs.Bounds.{gap-next}
+use Rattle.walk.specs.Heads.{gap}
+use Rattle.walk.specs.Answers.{read-says}
+use Rattle.walk.proofs.Reading.{gaps-none, gaps-stop, gaps-rest}
+use Rattle.walk.proofs.Bounds.{gap-next}
 use Rattle.decode.proofs.store_gaps.Statement.{statement}
 use Rattle.decode.proofs.store_gaps.Tie as tie
 

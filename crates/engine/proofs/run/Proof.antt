@@ -23,7 +23,7 @@ entry c = c .before .before .before .before .before .before .before
 
 -- what was lent
 abbrev lent : tie.After-test-lists → Lent
-lent c = let args = entry c .args in lend (args .numbers .now) (args .ends .now)
+lent c = let args = entry c .args in lend (args .numbers .now) (args .ends .now) (args .word)
 
 -- the lists pass their tests
 pass : (c : tie.Else1) → number-of (lists-of (lent (c .before))) ≡ 0

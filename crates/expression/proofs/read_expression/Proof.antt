@@ -16,16 +16,16 @@ use Rattle.expression.proofs.read_expression.Statement.{statement}
 use Rattle.expression.proofs.read_expression.Tie as tie
 
 abbrev Inv-loop : tie.InvT-loop
-Inv-loop form s lists nodes₀ left₀ depth₀ done₀ at₀ nodes left depth done at = Held form (there lists) s nodes left depth done at
+Inv-loop form s lists word nodes₀ left₀ depth₀ done₀ at₀ nodes left depth done at = Held form (there lists word) s nodes left depth done at
 
 abbrev μ-loop : tie.MeasureT-loop
-μ-loop form s lists nodes₀ left₀ depth₀ done₀ at₀ nodes left depth done at = 3 * (48 - done) + depth
+μ-loop form s lists word nodes₀ left₀ depth₀ done₀ at₀ nodes left depth done at = 3 * (48 - done) + depth
 
 array-write-left : tie.Need-array-write-left Inv-loop μ-loop
 array-write-left c = search needs
 
 loop-holds : tie.Need-loop-holds Inv-loop μ-loop
-loop-holds c = begin (c .before .args .form) (there (c .before .args .lists)) (c .before .args .s .now)
+loop-holds c = begin (c .before .args .form) (there (c .before .args .lists) (c .before .args .word)) (c .before .args .s .now)
 
 sub-level : tie.Need-sub-level Inv-loop μ-loop
 sub-level c = search needs
@@ -97,8 +97,8 @@ returns-4 : tie.Need-returns-4 Inv-loop μ-loop
 returns-4 c =
     let k = c .before .before .before in
     let u = k .before .before .before .before .before .before in
-    let lists = u .before .before .before .before .args .lists in
-    c .refused4 .ensures ∙ sym (at-leaf (u .before .before .loop .inv) (u .before .loop-test .taken) (u .if1 .left) (omega arith) (omega arith) (node-got k) (fails (there lists) (there-told lists) (k .before .got .given .0 .0) (c .before .before .test-leaf .ensures) (c .before .if4 .taken)))
+    let args = u .before .before .before .before .args in
+    c .refused4 .ensures ∙ sym (at-leaf (u .before .before .loop .inv) (u .before .loop-test .taken) (u .if1 .left) (omega arith) (omega arith) (node-got k) (fails (there (args .lists) (args .word)) (there-told (args .lists) (args .word)) (k .before .got .given .0 .0) (c .before .before .test-leaf .ensures) (c .before .if4 .taken)))
 
 array-read-left : tie.Need-array-read-left Inv-loop μ-loop
 array-read-left c = omega arith
@@ -137,8 +137,8 @@ loop-again-2 : tie.Need-loop-again-2 Inv-loop μ-loop
 loop-again-2 c =
     let k = c .before .before .before .before in
     let u = k .before .before .before .before .before .before in
-    let lists = u .before .before .before .before .args .lists in
-    rw (c .byte-of .ensures, c .before .members-of .ensures) (step (u .before .before .loop .inv) (u .before .loop-test .taken) (u .if1 .left) (omega arith) (omega arith) (node-got k) (passes (there lists) (there-told lists) (k .before .got .given .0 .0) (c .before .before .before .test-leaf .ensures) (c .before .before .if4 .left)))
+    let args = u .before .before .before .before .args in
+    rw (c .byte-of .ensures, c .before .members-of .ensures) (step (u .before .before .loop .inv) (u .before .loop-test .taken) (u .if1 .left) (omega arith) (omega arith) (node-got k) (passes (there (args .lists) (args .word)) (there-told (args .lists) (args .word)) (k .before .got .given .0 .0) (c .before .before .before .test-leaf .ensures) (c .before .before .if4 .left)))
 
 ended-requires : tie.Need-ended-requires Inv-loop μ-loop
 ended-requires c κs = omega arith

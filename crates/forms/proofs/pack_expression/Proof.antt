@@ -30,10 +30,10 @@ use Rattle.forms.proofs.pack_expression.Tie as tie
 
 -- what was read
 abbrev got : tie.After-read-expression → Outcome Tree
-got c = let args = c .before .before .before .before .before .args in read-row (there (args .lists)) (args .row .now)
+got c = let args = c .before .before .before .before .before .args in read-row (there (args .lists) (args .word)) (args .row .now)
 
 read : (c : tie.After-read-expression) → Handed (got c) (c .read-expression .result)
-read c = let args = c .before .before .before .before .before .args in handed (got c) (row-reads (there (args .lists)) (args .row .now)) (c .read-expression .ensures)
+read c = let args = c .before .before .before .before .before .args in handed (got c) (row-reads (there (args .lists) (args .word)) (args .row .now)) (c .read-expression .ensures)
 
 -- 7 does not apply
 holds : (c : tie.Else1) → count-holds (c .before .before .before .before .args .lists) ≡ true
@@ -44,7 +44,7 @@ abbrev bits : tie.After-read-expression → List Bool
 bits c = row-bits (of-read row (got c))
 
 bytes-are : (c : tie.After-read-expression) → bytes (bits c) ≡ of-read packed (got c)
-bytes-are c = let args = c .before .before .before .before .before .args in packed-of (got c) (row-reads (there (args .lists)) (args .row .now)) (there-narrow (args .lists) (counts (args .lists) (holds (c .before)) .1))
+bytes-are c = let args = c .before .before .before .before .before .args in packed-of (got c) (row-reads (there (args .lists) (args .word)) (args .row .now)) (there-narrow (args .lists) (args .word) (counts (args .lists) (holds (c .before)) .1))
 
 -- how many of each
 record Counted (c : tie.After-read-expression) (n : ℕ) : Type 0 where
@@ -69,7 +69,7 @@ returns : tie.Need-returns
 returns c =
     let args = c .before .before .before .before .before .args in
     let wrong : count-holds (args .lists) ≡ false = sym (c .before .before .count-holds .ensures) ∙ not-true _ (c .before .if1 .taken) in
-    ap (λ (r : WriteResult). written r (args .bytes .now)) (c .refused .ensures) ∙ pack-wrong (args .row .now) (args .lists) (args .bytes .now) wrong
+    ap (λ (r : WriteResult). written r (args .bytes .now)) (c .refused .ensures) ∙ pack-wrong (args .row .now) (args .lists) (args .word) (args .bytes .now) wrong
 
 read-expression-requires : tie.Need-read-expression-requires
 read-expression-requires c κs = search needs
@@ -84,7 +84,7 @@ returns-2 c =
     let n = read e .number in
     ap (λ (r : WriteResult). written r (args .bytes .now)) (c .refused2 .ensures ∙ ap written-refused n)
     ∙ sends-refusal packed (λ t. length (packed t)) (λ t. refl) (args .bytes .now) (got e) (λ z. c .before .if2 .taken (n ∙ z))
-    ∙ pack-on (args .row .now) (args .lists) (args .bytes .now) (holds (e .before))
+    ∙ pack-on (args .row .now) (args .lists) (args .word) (args .bytes .now) (holds (e .before))
 
 array-share-prefix-nodes : tie.Need-array-share-prefix-nodes
 array-share-prefix-nodes c = let r = read (c .before .before .before) in omega (arith, r .few, r .all)
@@ -110,7 +110,7 @@ returns-3 c =
     let args = e .before .before .before .before .before .args in
     ap (λ (r : WriteResult). written r (args .bytes .now)) (c .refused3 .ensures)
     ∙ sends-short packed (λ t. length (packed t)) (λ t. refl) (args .bytes .now) (got e) (omega (arith, counted n .bytes-long, ap length (bytes-are e), c .before .if3 .taken))
-    ∙ pack-on (args .row .now) (args .lists) (args .bytes .now) (holds (e .before))
+    ∙ pack-on (args .row .now) (args .lists) (args .word) (args .bytes .now) (holds (e .before))
 
 array-share-prefix-nodes-2 : tie.Need-array-share-prefix-nodes-2
 array-share-prefix-nodes-2 c = let r = read (c .before .before .before .before .before .before .before) in omega (arith, r .few, r .all)
@@ -158,7 +158,7 @@ returns-4 c =
     ∙ put-filled lent (bits e) size (λ i. e .before .before .before .slice-known .given i .fits) (k .bytes-long) room
     ∙ ap₂ (λ (l : List ℕ) (m : ℕ). l ++ drop m lent) (bytes-are e) long)
     ∙ sends-all packed (λ t. length (packed t)) (λ t. refl) lent (got e) (sym (r .number) ∙ n .before .before .before .if2 .left) (omega arith)
-    ∙ pack-on (args .row .now) (args .lists) lent (holds (e .before))
+    ∙ pack-on (args .row .now) (args .lists) (args .word) lent (holds (e .before))
 
 pub pack-expression-spec : {M : Type 1} → statement M
 pack-expression-spec =

@@ -25,10 +25,10 @@ use Rattle.forms.proofs.unpack_expression.Tie as tie
 
 -- what was read
 abbrev got : tie.After-read-expression → Outcome Tree
-got c = let args = c .before .before .before .before .before .args in read-packed (there (args .lists)) (args .bytes .now)
+got c = let args = c .before .before .before .before .before .args in read-packed (there (args .lists) (args .word)) (args .bytes .now)
 
 read : (c : tie.After-read-expression) → Handed (got c) (c .read-expression .result)
-read c = let args = c .before .before .before .before .before .args in handed (got c) (packed-reads (there (args .lists)) (args .bytes .now)) (c .read-expression .ensures)
+read c = let args = c .before .before .before .before .before .args in handed (got c) (packed-reads (there (args .lists) (args .word)) (args .bytes .now)) (c .read-expression .ensures)
 
 -- 7 does not apply
 holds : (c : tie.Else1) → count-holds (c .before .before .before .before .args .lists) ≡ true
@@ -44,7 +44,7 @@ returns : tie.Need-returns
 returns c =
     let args = c .before .before .before .before .before .args in
     let wrong : count-holds (args .lists) ≡ false = sym (c .before .before .count-holds .ensures) ∙ not-true _ (c .before .if1 .taken) in
-    ap (λ (r : WriteResult). written r (args .row .now)) (c .refused .ensures) ∙ unpack-wrong (args .bytes .now) (args .lists) (args .row .now) wrong
+    ap (λ (r : WriteResult). written r (args .row .now)) (c .refused .ensures) ∙ unpack-wrong (args .bytes .now) (args .lists) (args .word) (args .row .now) wrong
 
 read-expression-requires : tie.Need-read-expression-requires
 read-expression-requires c κs = search needs
@@ -59,7 +59,7 @@ returns-2 c =
     let n = read e .number in
     ap (λ (r : WriteResult). written r (args .row .now)) (c .refused2 .ensures ∙ ap written-refused n)
     ∙ sends-refusal row size row-long (args .row .now) (got e) (λ z. c .before .if2 .taken (n ∙ z))
-    ∙ unpack-on (args .bytes .now) (args .lists) (args .row .now) (holds (e .before))
+    ∙ unpack-on (args .bytes .now) (args .lists) (args .word) (args .row .now) (holds (e .before))
 
 refused-requires-3 : tie.Need-refused-requires-3
 refused-requires-3 c κs = search needs
@@ -70,7 +70,7 @@ returns-3 c =
     let args = e .before .before .before .before .before .args in
     ap (λ (r : WriteResult). written r (args .row .now)) (c .refused3 .ensures)
     ∙ sends-short row size row-long (args .row .now) (got e) (omega (arith, read e .count, c .before .if3 .taken))
-    ∙ unpack-on (args .bytes .now) (args .lists) (args .row .now) (holds (e .before))
+    ∙ unpack-on (args .bytes .now) (args .lists) (args .word) (args .row .now) (holds (e .before))
 
 array-share-prefix-nodes : tie.Need-array-share-prefix-nodes
 array-share-prefix-nodes c = let r = read (c .before .before .before .before .before) in omega (arith, r .few, r .all)
@@ -98,7 +98,7 @@ returns-4 c =
     ap₂ (λ (n : ℕ) (l : List ℕ). written (record { number = 0; count = n }) l) (r .count)
     (copied .copy-out .ensures ∙ ap (lay lent 0) (r .nodes) ∙ ap (λ (n : ℕ). xs ++ drop n lent) (zero-add (length xs)))
     ∙ sends-all row size row-long lent (got e) (sym (r .number) ∙ copied .before .before .before .before .before .if2 .left) (omega (arith, r .count, copied .before .before .before .if3 .left))
-    ∙ unpack-on (args .bytes .now) (args .lists) lent (holds (e .before))
+    ∙ unpack-on (args .bytes .now) (args .lists) (args .word) lent (holds (e .before))
 
 pub unpack-expression-spec : {M : Type 1} → statement M
 unpack-expression-spec =

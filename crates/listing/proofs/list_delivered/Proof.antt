@@ -22,11 +22,11 @@ abbrev entry : tie.After-read-expression → tie.Start
 entry c = c .before .before .before .before .before
 
 -- a tree was read, and stands at the first node
-read : (c : tie.Else1) → let args = entry (c .before .before) .args in Read-over (lend (args .numbers .now) (args .ends .now)) (args .packed .now) (c .before .before .read-expression .result)
+read : (c : tie.Else1) → let args = entry (c .before .before) .args in Read-over (lend (args .numbers .now) (args .ends .now) (args .word)) (args .packed .now) (c .before .before .read-expression .result)
 read c =
     let e = c .before .before in
     let args = entry e .args in
-    read-over (lend (args .numbers .now) (args .ends .now)) (args .packed .now) (e .read-expression .ensures) (entry e .pre .many) (c .if1 .left)
+    read-over (lend (args .numbers .now) (args .ends .now) (args .word)) (args .packed .now) (e .read-expression .ensures) (entry e .pre .many) (c .if1 .left)
 
 -- a refusal handed back
 handed : (lent : List ℕ) {r : MembersResult} {n : ℕ} → r ≡ counted-refused n → counted r lent ≡ counted (counted-refused n) lent
@@ -43,7 +43,7 @@ returns c =
     let e = c .before .before .before in
     let args = entry e .args in
     handed (args .members .now) (c .refused .ensures)
-    ∙ over-refuses (args .numbers .now) (args .ends .now) _ _ _ (refused-over (lend (args .numbers .now) (args .ends .now)) (args .packed .now) (e .read-expression .ensures) (c .before .if1 .taken))
+    ∙ over-refuses (args .numbers .now) (args .ends .now) (args .word) _ _ _ (refused-over (lend (args .numbers .now) (args .ends .now) (args .word)) (args .packed .now) (e .read-expression .ensures) (c .before .if1 .taken))
 
 node-ends-requires : tie.Need-node-ends-requires
 node-ends-requires c κs = search needs
@@ -68,7 +68,7 @@ unfolding begin
 drawn c =
     let r = tested c .before .before in
     let e = entry r in
-    draws-all (e .args .numbers .now) (e .args .ends .now) (e .args .packed .now) (e .args .members .now) (read (tested c) .tree) (read (tested c) .is)
+    draws-all (e .args .numbers .now) (e .args .ends .now) (e .args .word) (e .args .packed .now) (e .args .members .now) (read (tested c) .tree) (read (tested c) .is)
     (λ i. r .before .before .before .before .shared-slice-known .given i .fits) (e .pre) _ (read (tested c) .stands) (replicate 4097 0) refl _ _ (c .draw-page .ensures .1 (read (tested c) .tree) (read (tested c) .stands))
 
 refused-requires-2 : tie.Need-refused-requires-2
@@ -79,7 +79,7 @@ returns-2 c =
     let p = c .before .before .before in
     let args = entry (tested p .before .before) .args in
     handed (args .members .now) (c .refused2 .ensures)
-    ∙ over-short _ _ _ _ _ (read (tested p) .is) (omega (arith, drawn p .count, c .before .if2 .taken))
+    ∙ over-short _ _ _ _ _ _ (read (tested p) .is) (omega (arith, drawn p .count, c .before .if2 .taken))
 
 array-share-prefix-drawn : tie.Need-array-share-prefix-drawn
 array-share-prefix-drawn c = drawn (c .before .before .before) .inside
@@ -104,7 +104,7 @@ returns-3 c =
     ap₂ (λ (n m : ℕ). counted (record { number = 0; count = n; moves = m }) (c .before .before .before .copy-out .last .0)) (all .count) (all .moved)
     ∙ ap (λ (row : List ℕ). counted (record { number = 0; count = length (members (lists-from (args .numbers .now) 0 (args .ends .now)) (read (tested (p d)) .tree)); moves = moves-of (lists-from (args .numbers .now) 0 (args .ends .now)) (read (tested (p d)) .tree) }) row)
     (c .before .before .before .copy-out .ensures ∙ ap (lay (args .members .now) 0) (all .holds))
-    ∙ over-lists (args .numbers .now) (args .ends .now) (args .packed .now) (args .members .now) _ (read (tested (p d)) .is) (omega (arith, all .count, d .before .before .if2 .left))
+    ∙ over-lists (args .numbers .now) (args .ends .now) (args .word) (args .packed .now) (args .members .now) _ (read (tested (p d)) .is) (omega (arith, all .count, d .before .before .if2 .left))
 
 pub list-delivered-spec : {M : Type 1} → statement M
 list-delivered-spec =

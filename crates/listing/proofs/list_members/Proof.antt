@@ -1,6 +1,6 @@
 -- `list_members` meets its contract: test by test, in the order of `Program.listing`; behind the delivery the lists stand in the
 -- rows, and `list_delivered` sends back what the definition does. Assumes nothing.
-use mathlib.Core.Path.{_≡_, sym, ap, _∙_}
+use mathlib.Core.Path.{_≡_, sym, ap, ap₂, _∙_}
 use mathlib.Core.List.{List}
 use Prim.Native.Nat.{ℕ, _+_}
 use native.Mathlib.Omega.{arith}
@@ -139,7 +139,7 @@ returns-5 c =
     let w = parts (from e) .before in
     let args = entry (w .before .before .before) .args in
     c .before .before .list-delivered .ensures
-    ∙ ap (λ (ls : List (List ℕ)). list-over ls (first-part (args .input .now) (w .wide .result + 1)) (args .members .now)) (laid e .lists-are)
+    ∙ ap₂ (λ (v : ℕ) (ls : List (List ℕ)). list-over v ls (first-part (args .input .now) (w .wide .result + 1)) (args .members .now)) (laid e .word-is) (laid e .lists-are)
     ∙ goes-over _ _ (w .before .before .before .if1 .left) _ (w .before .before .if2 .left) (ends-at w) (parts (from e) .if3 .left) _ (read e .is)
 
 pub list-members-spec : {M : Type 1} → statement M

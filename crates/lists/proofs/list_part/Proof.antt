@@ -20,15 +20,15 @@ record Handed (l : Lent) (k start size : ℕ) : Type 0 where
   sizes : size ≡ span-of l k .size
   inside : start + size ≤ length (l .numbers)
 
-spans : (c : tie.After-list-span) → let args = c .before .before .before .args in Handed (lend (args .numbers .now) (args .ends .now)) (args .k) (c .list-span .result .start) (c .list-span .result .size)
+spans : (c : tie.After-list-span) → let args = c .before .before .before .args in Handed (lend (args .numbers .now) (args .ends .now) (args .word)) (args .k) (c .list-span .result .start) (c .list-span .result .size)
 unfolding span-says
 spans c =
     let args = c .before .before .before .args in
     let e = c .list-span .ensures in
-    let span : Span = span-of (lend (args .numbers .now) (args .ends .now)) (args .k) in
+    let span : Span = span-of (lend (args .numbers .now) (args .ends .now) (args .word)) (args .k) in
     let a : c .list-span .result .start ≡ span .start = ap (λ (s : Span). s .start) e in
     let b : c .list-span .result .size ≡ span .size = ap (λ (s : Span). s .size) e in
-    record { starts = a; sizes = b; inside = rw (a, b) (span-inside (lend (args .numbers .now) (args .ends .now)) (args .k)) }
+    record { starts = a; sizes = b; inside = rw (a, b) (span-inside (lend (args .numbers .now) (args .ends .now) (args .word)) (args .k)) }
 
 add-to : tie.Need-add-to
 add-to c = omega (arith, spans (c .before) .inside)

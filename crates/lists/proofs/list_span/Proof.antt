@@ -18,17 +18,17 @@ returns : tie.Need-returns
 unfolding span-says
 returns c =
     let args = c .before .before .before .before .args in
-    sym (span-refused (lend (args .numbers .now) (args .ends .now)) (args .k) (λ e. c .if1 .taken (c .before .test-lists .ensures ∙ e)))
+    sym (span-refused (lend (args .numbers .now) (args .ends .now) (args .word)) (args .k) (λ e. c .if1 .taken (c .before .test-lists .ensures ∙ e)))
 
 -- no test refuses
-accepted : (c : tie.Else1) → let args = c .before .before .before .before .args in number-of (lists-of (lend (args .numbers .now) (args .ends .now))) ≡ 0
+accepted : (c : tie.Else1) → let args = c .before .before .before .before .args in number-of (lists-of (lend (args .numbers .now) (args .ends .now) (args .word))) ≡ 0
 accepted c = sym (c .before .test-lists .ensures) ∙ c .if1 .left
 
 returns-2 : tie.Need-returns-2
 unfolding span-says
 returns-2 c =
     let args = c .before .before .before .before .before .args in
-    sym (span-missing (lend (args .numbers .now) (args .ends .now)) (args .k) (accepted (c .before)) (omega arith))
+    sym (span-missing (lend (args .numbers .now) (args .ends .now) (args .word)) (args .k) (accepted (c .before)) (omega arith))
 
 start-of-requires : tie.Need-start-of-requires
 start-of-requires c κs = search needs
@@ -43,13 +43,13 @@ wide-requires : tie.Need-wide-requires
 wide-requires c κs = search needs
 
 -- list k is there
-there : (c : tie.After-wide) → let args = c .before .before .before .before .before .before .before .before .args in There (lend (args .numbers .now) (args .ends .now)) (args .k)
+there : (c : tie.After-wide) → let args = c .before .before .before .before .before .before .before .before .args in There (lend (args .numbers .now) (args .ends .now) (args .word)) (args .k)
 there c =
     let args = c .before .before .before .before .before .before .before .before .args in
-    span-there (lend (args .numbers .now) (args .ends .now)) (args .k) (accepted (c .before .before .before .before)) (omega arith)
+    span-there (lend (args .numbers .now) (args .ends .now) (args .word)) (args .k) (accepted (c .before .before .before .before)) (omega arith)
 
-sub-t8 : tie.Need-sub-t8
-sub-t8 c = omega (arith, there c .order, c .before .before .start-of .ensures, c .wide .ensures)
+sub-size : tie.Need-sub-size
+sub-size c = omega (arith, there c .order, c .before .before .start-of .ensures, c .wide .ensures)
 
 returns-3 : tie.Need-returns-3
 unfolding span-says
@@ -69,5 +69,5 @@ list-span-spec =
     mul-wide
     shared-slice-read-wide
     wide-requires
-    sub-t8
+    sub-size
     returns-3)

@@ -9,12 +9,11 @@ use borrow.Author.Needs.{needs}
 use lib.Dec.{ltb}
 use lib.ListN.{length, getD, take}
 use lib.Seq.{length-take-le}
-use Rattle.model.specs.Lists.{ascending, lists-from, ends-hold, lend}
+use Rattle.model.specs.Lists.{ascending, lists-from, ends-hold}
 use Rattle.model.specs.Expression.{Tree}
 use Rattle.model.specs.Sets.{among, member, members}
 use Rattle.model.specs.Update.{Change, new-lists, is-new}
 use Rattle.model.proofs.Order.{Up}
-use Rattle.model.proofs.Accepted.{lists-accepted}
 use Rattle.model.proofs.Denoted.{members-up, up-ascending, members-are}
 use Rattle.lists.proofs.Spans.{readable-up}
 use Rattle.reader.specs.Rows.{Stands}
@@ -35,7 +34,7 @@ abbrev over : tie.Start → List (List ℕ)
 over c = lists-from (c .args .numbers .now) 0 (c .args .ends .now)
 
 hold : (c : tie.Start) → ends-hold (length (c .args .numbers .now)) 0 (c .args .ends .now) ≡ true
-hold c = lists-accepted (lend (c .args .numbers .now) (c .args .ends .now)) (over c) (c .pre .1 .1 .0 .0) .hold
+hold c = c .pre .1 .1 .0 .0
 
 up : (c : tie.After-find-in) → (k : ℕ) → Up 0 (getD (over (entry c)) k [])
 up c = let e = entry c in readable-up (e .args .numbers .now) (e .args .ends .now) (λ i. c .before .before .before .shared-slice-known .given i .fits) (e .pre .0 .lists)
@@ -80,13 +79,13 @@ find-requires c κs =
     ap ascending (e .pre .1 .1 .1 .1 (s .tree) (s .stands)) ∙ up-ascending 0 _ (members-up (over e) (up f) (s .tree))
 
 will-be-member-requires : tie.Need-will-be-member-requires
-will-be-member-requires c κs = let e = entry (c .before .before) in (e .pre .0, (e .pre .1 .0, lists-accepted (lend (e .args .numbers .now) (e .args .ends .now)) (over e) (e .pre .1 .1 .0 .0) .count))
+will-be-member-requires c κs = let e = entry (c .before .before) in (e .pre .0, (e .pre .1 .0, e .pre .1 .1 .0 .1))
 
 differ-requires : tie.Need-differ-requires
 differ-requires c κs = search needs
 
 test-room-requires : tie.Need-test-room-requires
-test-room-requires c κs = let e = began (c .before) in (e .pre .1 .1 .0 .1, e .pre .0 .lists .order (e .args .list) (e .pre .1 .1 .0 .1))
+test-room-requires c κs = let e = began (c .before) in (e .pre .1 .1 .0 .2, e .pre .0 .lists .order (e .args .list) (e .pre .1 .1 .0 .2))
 
 takes-requires : tie.Need-takes-requires
 takes-requires c κs = search needs
@@ -106,7 +105,7 @@ returns c =
     let f = w .before .before .before in
     let e = began w in
     let found = w .before .find .ensures in
-    λ t h. verdict-says (e .args .numbers .now) (e .args .ends .now) (hold e) (up f) (asked e) (e .pre .1 .1 .0 .1) (omega (arith, e .fits .number)) t (e .pre .0 .lists) (e .args .members .now) (e .args .count) (omega (arith, many w t h, e .pre .1 .1 .1 .0)) _
+    λ t h. verdict-says (e .args .numbers .now) (e .args .ends .now) (hold e) (up f) (asked e) (e .pre .1 .1 .0 .2) (omega (arith, e .fits .number)) t (e .pre .0 .lists) (e .args .members .now) (e .args .count) (omega (arith, many w t h, e .pre .1 .1 .1 .0)) _
     (v .verdict .ensures ∙ (λ i. first-number (news (r .before) i) (r .test-room .ensures i) (taken k t h i)))
     (λ i. record { at = f .find-in .ensures .0 i; used = c .start-of .ensures i; place = found .0 i; was = was w t h i; will = will w t h i })
 

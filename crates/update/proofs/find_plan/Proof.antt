@@ -10,15 +10,16 @@ use lib.Seq.{length-take-le}
 use Rattle.model.specs.Outcome.{accepted}
 use Rattle.model.specs.Lists.{lists-from, Lent, lend, lists-of}
 use Rattle.model.specs.Sets.{members}
+use Rattle.model.specs.Run.{named-in}
 use Rattle.model.specs.Update.{Change, same, shows}
-use Rattle.model.proofs.Accepted.{lists-accepted}
+use Rattle.model.proofs.Accepted.{lists-accepted, there-is}
 use Rattle.changes.proofs.Changes.{same-is}
-use Rattle.model.proofs.Told.{refused-by}
+use Rattle.model.proofs.Told.{refused-by, zero-accepts, there-told}
 use Rattle.lists.proofs.Spans.{counts, readable, passed}
 use Rattle.reader.proofs.Laying.{Read-over, read-over, refused-over}
 use Rattle.kept.specs.Kept.{as-change}
 use Rattle.update.proofs.Tests.{says-refused}
-use Rattle.update.proofs.Whole.{shows-short, shows-same, whole-lists, whole-expression, whole-4, whole-17, whole-plan}
+use Rattle.update.proofs.Whole.{shows-short, shows-same, whole-lists, whole-expression, whole-named, whole-17, whole-plan}
 use Rattle.update.proofs.find_plan.Statement.{statement}
 use Rattle.update.proofs.find_plan.Tie as tie
 
@@ -27,7 +28,7 @@ entry c = c .before .before .before .before .before
 
 -- what was lent, and what is asked for
 abbrev lent : tie.After-test-lists → Lent
-lent c = let args = entry c .args in lend (args .numbers .now) (args .ends .now)
+lent c = let args = entry c .args in lend (args .numbers .now) (args .ends .now) (args .word)
 
 abbrev asked : tie.After-test-lists → Change
 asked c = let args = entry c .args in as-change (args .list) (args .number) (args .adds)
@@ -54,7 +55,7 @@ abbrev fit : tie.After-shows → tie.Else4
 fit c = c .before .before .before .before .before .before .before
 
 abbrev of : tie.After-shows → tie.Else2
-of c = fit c .before .before
+of c = fit c .before .before .before
 
 told : (c : tie.After-shows) → let args = entry (tested (of c)) .args in c .shows .result ≡ same (take (args .count) (args .members .now)) (members (over (tested (of c))) (read (of c) .tree))
 told c = c .shows .ensures (read (of c) .tree) (read (of c) .stands)
@@ -87,38 +88,50 @@ returns-2 c =
     says-refused (c .refused2 .result) (e .read-expression .result .number) (c .refused2 .ensures) (c .before .if2 .taken)
     ∙ whole-expression (lent t) (args .packed .now) (asked t) (args .members .now) (args .count) _ (pass (e .before)) _ (refused-over (lent t) (args .packed .now) (e .read-expression .ensures) (c .before .if2 .taken))
 
+test-list-requires : tie.Need-test-list-requires
+test-list-requires c κs = search needs
+
+-- 4 and 18 have passed
+named : (c : tie.Else3) → let t = tested (c .before .before) in named-in (lent t) (asked t .list) ≡ accepted tt
+named c =
+    let l = lent (tested (c .before .before)) in
+    let k = asked (tested (c .before .before)) .list in
+    zero-accepts (named-in l k) (there-told (length (l .ends)) (l .word) k) (sym (c .before .test-list .ensures) ∙ c .if3 .left) .is
+
 refused-requires-3 : tie.Need-refused-requires-3
 refused-requires-3 c κs = search needs
 
 returns-3 : tie.Need-returns-3
 returns-3 c =
-    let e = c .before .before in
+    let n = c .before .before in
+    let e = n .before in
     let t = tested e in
     let args = entry t .args in
-    says-refused (c .refused3 .result) 4 (c .refused3 .ensures) (λ z. omega (arith, z))
-    ∙ whole-4 (lent t) (args .packed .now) (asked t) (args .members .now) (args .count) _ (pass (e .before .before .before)) _ (read e .is) (c .before .if3 .taken)
+    let z = n .test-list .ensures in
+    says-refused (c .refused3 .result) _ (c .refused3 .ensures ∙ z) (λ q. c .before .if3 .taken (z ∙ q))
+    ∙ whole-named (lent t) (args .packed .now) (asked t) (args .members .now) (args .count) _ (pass (e .before .before .before)) _ (read e .is) _ (refused-by (named-in (lent t) (asked t .list)) (λ q. c .before .if3 .taken (z ∙ q)))
 
 refused-requires-4 : tie.Need-refused-requires-4
 refused-requires-4 c κs = search needs
 
 returns-4 : tie.Need-returns-4
 returns-4 c =
-    let e = c .before .before .before in
+    let e = c .before .before .before .before in
     let t = tested e in
     let args = entry t .args in
     says-refused (c .refused4 .result) 17 (c .refused4 .ensures) (λ z. omega (arith, z))
-    ∙ whole-17 (lent t) (args .packed .now) (asked t) (args .members .now) (args .count) _ (pass (e .before .before .before)) _ (read e .is) (c .before .before .if3 .left) (shows-short (args .members .now) (args .count) _ (c .before .if4 .taken))
+    ∙ whole-17 (lent t) (args .packed .now) (asked t) (args .members .now) (args .count) _ (pass (e .before .before .before)) _ (read e .is) (named (c .before .before)) (shows-short (args .members .now) (args .count) _ (c .before .if4 .taken))
 
 node-ends-requires : tie.Need-node-ends-requires
 node-ends-requires c κs = search needs
 
 slice-aggregate-shows : tie.Need-slice-aggregate-shows
-slice-aggregate-shows c = let e = c .before .before .before .before .before .before in let args = entry (tested (e .before .before)) .args in sym (length-take-le (args .count) (args .members .now) (e .if4 .left))
+slice-aggregate-shows c = let e = c .before .before .before .before .before .before in let args = entry (tested (e .before .before .before)) .args in sym (length-take-le (args .count) (args .members .now) (e .if4 .left))
 
 shows-requires : tie.Need-shows-requires
 shows-requires c κs =
     let n = c .before .before .before in
-    let e = n .before .before .before .before .before in (
+    let e = n .before .before .before .before .before .before in (
       record { lists = readable (lent (tested e)) _ (pass (e .before .before .before)); table = n .node-ends .ensures },
       record { tree = read e .tree; stands = read e .stands },
     )
@@ -133,7 +146,7 @@ returns-5 c =
     let t = tested e in
     let args = entry t .args in
     says-refused (c .refused5 .result) 17 (c .refused5 .ensures) (λ z. omega (arith, z))
-    ∙ whole-17 (lent t) (args .packed .now) (asked t) (args .members .now) (args .count) _ (pass (e .before .before .before)) _ (read e .is) (fit w .before .if3 .left)
+    ∙ whole-17 (lent t) (args .packed .now) (asked t) (args .members .now) (args .count) _ (pass (e .before .before .before)) _ (read e .is) (named (fit w .before))
     (shows-same (args .members .now) (args .count) _ (fit w .if4 .left) ∙ sym (told w) ∙ not-true _ (c .before .if5 .taken))
 
 examine-requires : tie.Need-examine-requires
@@ -142,12 +155,12 @@ examine-requires c κs =
     let n = w .before .before .before .before in
     let e = of w in
     let t = tested e in
-    let args = entry t .args in (
+    let taken = lists-accepted (lent t) _ (pass (e .before .before .before)) in (
       record { lists = readable (lent t) _ (pass (e .before .before .before)); table = n .node-ends .ensures },
       (
         record { tree = read e .tree; stands = read e .stands },
         (
-          (pass (e .before .before .before), fit w .before .if3 .left),
+          (taken .hold, taken .count, there-is (length (lent t .ends)) (lent t .word) (asked t .list) (named (fit w .before))),
           (fit w .if4 .left, λ t h. same-is _ _ (sym (w .shows .ensures t h) ∙ not-false _ (c .before .before .if5 .left))),
         ),
       ),
@@ -160,7 +173,7 @@ returns-6 c =
     let t = tested e in
     let args = entry t .args in
     c .examine .ensures (read e .tree) (read e .stands)
-    ∙ whole-plan (lent t) (args .packed .now) (asked t) (args .members .now) (args .count) _ (pass (e .before .before .before)) _ (read e .is) (fit w .before .if3 .left)
+    ∙ whole-plan (lent t) (args .packed .now) (asked t) (args .members .now) (args .count) _ (pass (e .before .before .before)) _ (read e .is) (named (fit w .before))
     (shows-same (args .members .now) (args .count) _ (fit w .if4 .left) ∙ sym (told w) ∙ not-false _ (c .before .before .before .if5 .left))
 
 pub find-plan-spec : {M : Type 1} → statement M
@@ -173,6 +186,7 @@ find-plan-spec =
     read-expression-requires
     refused-requires-2
     returns-2
+    test-list-requires
     refused-requires-3
     returns-3
     refused-requires-4

@@ -25,7 +25,7 @@ entry c = c .before .before .before .before .before .before .before .before .bef
 
 -- what was lent, and what is asked for
 abbrev lent : tie.Start → Lent
-lent c = lend (c .args .numbers .now) (c .args .ends .now)
+lent c = lend (c .args .numbers .now) (c .args .ends .now) (c .args .word)
 
 abbrev asked : tie.Start → Change
 asked c = change (c .args .list) (c .args .number) (c .args .add)
@@ -62,7 +62,7 @@ module _ (c : tie.Else1) where
   small = omega (arith, e .fits .number)
 
   room : length (e .args .members .now) < 18446744073709551616
-  room = omega (arith, e .good .1 .1 .1 .1 .1 .1 .0 .0)
+  room = omega (arith, e .good .1 .1 .1 .1 .1 .1 .1 .0 .0)
 
   numbers-can : Shifts (asked e .adds) (p .at) (p .used) (length (lent e .numbers))
   numbers-can = numbers-shift (lent e) (e .args .packed .now) (asked e) (e .args .members .now) (e .args .count .now) (known f) small p (pass c)

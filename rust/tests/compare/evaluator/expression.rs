@@ -3,7 +3,7 @@
 use std::collections::BTreeSet;
 
 use super::bits::{Reader, Writer};
-use super::lists::Each;
+use super::lists::{delivered, Each};
 use super::Refused;
 
 #[derive(Debug, Clone, PartialEq, Eq)]
@@ -54,6 +54,7 @@ impl Nodes for std::slice::Iter<'_, u8> {
 struct Reading<'a, N> {
     nodes: &'a mut N,
     lists: usize,
+    word: u32,
     read: usize,
 }
 
@@ -68,6 +69,7 @@ impl<N: Nodes> Reading<'_, N> {
         self.read += 1;
         Ok(match self.nodes.take()? {
             Kind::List(list) if list >= self.lists => return Err(4),
+            Kind::List(list) if !delivered(self.word, list) => return Err(18),
             Kind::List(list) => Tree::List(list),
             Kind::Difference => {
                 let first = self.tree(depth + 1)?;
@@ -83,23 +85,29 @@ impl<N: Nodes> Reading<'_, N> {
     }
 }
 
-fn read<N: Nodes>(nodes: &mut N, lists: usize) -> Result<Tree, Refused> {
+fn read<N: Nodes>(nodes: &mut N, lists: usize, word: u32) -> Result<Tree, Refused> {
     if lists == 0 || lists > 32 {
         return Err(7);
     }
-    Reading { nodes, lists, read: 0 }.tree(1)
+    let mut reading = Reading {
+        nodes,
+        lists,
+        word,
+        read: 0,
+    };
+    reading.tree(1)
 }
 
-pub fn read_packed(packed: &[u8], lists: usize) -> Result<Tree, Refused> {
+pub fn read_packed(packed: &[u8], lists: usize, word: u32) -> Result<Tree, Refused> {
     let mut bits = Reader::new(packed);
-    let tree = read(&mut bits, lists)?;
+    let tree = read(&mut bits, lists, word)?;
     bits.end()?;
     Ok(tree)
 }
 
-pub fn read_row(row: &[u8], lists: usize) -> Result<Tree, Refused> {
+pub fn read_row(row: &[u8], lists: usize, word: u32) -> Result<Tree, Refused> {
     let mut bytes = row.iter();
-    let tree = read(&mut bytes, lists)?;
+    let tree = read(&mut bytes, lists, word)?;
     if bytes.next().is_some() {
         return Err(5);
     }
@@ -107,8 +115,8 @@ pub fn read_row(row: &[u8], lists: usize) -> Result<Tree, Refused> {
 }
 
 /// A packed expression to its row form, into a row of so many places.
-pub fn unpack(packed: &[u8], lists: usize, room: usize) -> Result<Vec<u8>, Refused> {
-    let row = read_packed(packed, lists)?.row();
+pub fn unpack(packed: &[u8], lists: usize, word: u32, room: usize) -> Result<Vec<u8>, Refused> {
+    let row = read_packed(packed, lists, word)?.row();
     if row.len() > room {
         return Err(6);
     }
@@ -116,8 +124,8 @@ pub fn unpack(packed: &[u8], lists: usize, room: usize) -> Result<Vec<u8>, Refus
 }
 
 /// A row form to the packed one, into so many bytes.
-pub fn pack(row: &[u8], lists: usize, room: usize) -> Result<Vec<u8>, Refused> {
-    let packed = read_row(row, lists)?.packed();
+pub fn pack(row: &[u8], lists: usize, word: u32, room: usize) -> Result<Vec<u8>, Refused> {
+    let packed = read_row(row, lists, word)?.packed();
     if packed.len() > room {
         return Err(6);
     }
@@ -127,7 +135,7 @@ pub fn pack(row: &[u8], lists: usize, room: usize) -> Result<Vec<u8>, Refused> {
 impl Tree {
     pub fn denoted(&self, lists: &Each) -> BTreeSet<u32> {
         match self {
-            Tree::List(list) => lists[*list].iter().copied().collect(),
+            Tree::List(list) => lists[*list].iter().flatten().copied().collect(),
             Tree::Difference(first, second) => &first.denoted(lists) - &second.denoted(lists),
             Tree::Union(members) => members.iter().flat_map(|member| member.denoted(lists)).collect(),
             Tree::Intersection(members) => members

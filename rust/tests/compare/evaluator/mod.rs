@@ -9,6 +9,7 @@ pub mod expression;
 pub mod lists;
 pub mod machine;
 pub mod steps;
+mod tests;
 pub mod update;
 
 use expression::Tree;
@@ -44,8 +45,9 @@ pub const TOP: u64 = 4_294_967_296;
 
 /// The tests that a run makes ahead of 13.
 pub fn source(lists: &Lists, packed: &[u8], begin: Begin) -> Result<Source, Refused> {
+    let word = lists.word;
     let lists = lists::accepted(lists)?;
-    let tree = expression::read_packed(packed, lists.len())?;
+    let tree = expression::read_packed(packed, lists.len(), word)?;
     if begin.bookmark > TOP {
         return Err(12);
     }

@@ -16,7 +16,7 @@ impl<'a> Generator<'a> {
         let all = |members: &[Tree]| members.iter().map(|member| Self::new(member, lists)).collect();
         match tree {
             Tree::List(list) => Generator::Reader {
-                list: &lists[*list],
+                list: lists[*list].as_deref().expect("an accepted expression names delivered lists"),
                 place: 0,
             },
             Tree::Difference(first, second) => {

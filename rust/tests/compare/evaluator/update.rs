@@ -20,21 +20,21 @@ pub struct Kept {
     pub count: usize,
 }
 
-/// The used parts of the rows as they are left.
+/// The used parts of the rows as they are left; the word stays the caller's.
 #[derive(Debug, PartialEq, Eq)]
 pub struct Updated {
     pub lists: Lists,
     pub members: Vec<u32>,
 }
 
-/// The call's whole work: 7, 10, 11; 1 to 5; 4; 17, 15, 16, 6.
+/// The call's whole work: 7, 10, 11; 1 to 5 and 18; 4, 18; 17, 15, 16, 6.
 pub fn update(lists: &Lists, packed: &[u8], change: Change, kept: &Kept) -> Result<Updated, Refused> {
     let Source {
         lists: mut each,
         tree,
         set,
     } = source(lists, packed, Begin::default())?;
-    let list = each.get_mut(change.list).ok_or(4u32)?;
+    let list = each.get_mut(change.list).ok_or(4u32)?.as_mut().ok_or(18u32)?;
     if !kept.row.get(..kept.count).is_some_and(|used| used.iter().eq(&set)) {
         return Err(17);
     }

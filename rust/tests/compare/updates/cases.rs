@@ -1,38 +1,40 @@
 //! Cases: lists, an expression, a change that can mostly be made, and the row of members, mostly current.
 
 use super::Update;
-use crate::evaluator::lists::{self, lent, Lists};
+use crate::evaluator::lists::{self, Lists};
 use crate::evaluator::update::{Change, Kept};
 use crate::evaluator::{self, Begin};
-use crate::inputs::{lent_lists, long_list, number, number_near, packed, packed_anyway, some_lists};
+use crate::inputs::{lend, lent_lists, long_list, name_delivered, number, number_near, packed, packed_anyway, some_lists};
 use crate::random::{seed, Random};
 
 /// Lists, and a packed expression over them.
 fn source(random: &mut Random) -> (Lists, Vec<u8>) {
     let lists = if random.one_in(2) {
-        lent(&some_lists(random))
+        let lists = some_lists(random);
+        lend(random, &lists)
     } else {
         lent_lists(random)
     };
-    let count = lists.ends.len();
     let packed = if random.one_in(4) {
-        subtracted(random, count)
+        subtracted(random, &lists)
     } else {
-        packed(random, count)
+        packed(random, &lists)
     };
     (lists, packed)
 }
 
 /// A short difference: a member can come by removing a number from a list that is subtracted.
-fn subtracted(random: &mut Random, lists: usize) -> Vec<u8> {
-    let mut list = || random.below(lists.clamp(1, 32)) as u8;
+fn subtracted(random: &mut Random, lists: &Lists) -> Vec<u8> {
+    let mut list = || random.below(lists.ends.len().clamp(1, 32)) as u8;
     let (first, second, third) = (list(), list(), list());
     let rows: [&[u8]; 3] = [
         &[64, first, second],
         &[64, 130, first, third, second],
         &[64, first, 194, second, third],
     ];
-    packed_anyway(random.pick(&rows))
+    let mut row = random.pick(&rows).to_vec();
+    name_delivered(random, lists, &mut row);
+    packed_anyway(&row)
 }
 
 /// Three lists of which list 1 is about as long as can be, and an expression that may name it.
@@ -43,8 +45,9 @@ fn long_source(random: &mut Random) -> (Lists, Vec<u8>) {
         1 | 2 => long.truncate(65_534),
         _ => long.truncate(65_535),
     }
-    let mut other = || random.pick(&[&[][..], &[3, 65_535]]).to_vec();
-    let lists = lent(&[other(), long, other()]);
+    let mut other = || Some(random.pick(&[&[][..], &[3, 65_535]]).to_vec());
+    let lists = vec![other(), Some(long), other()];
+    let lists = lend(random, &lists);
     let rows: [&[u8]; 6] = [&[0], &[1], &[130, 0, 1], &[194, 1, 2], &[64, 1, 2], &[64, 2, 1]];
     (lists, packed_anyway(random.pick(&rows)))
 }

@@ -1,9 +1,10 @@
 //! What a good many cases must have had: each kind of a refusal, two refusals that apply at once, and each kind of success.
 
 use super::Update;
+use crate::evaluator::lists::delivered;
 use crate::evaluator::update::{Change, Kept, Updated};
 use crate::evaluator::{self, Begin, Source};
-use crate::inputs::longest;
+use crate::inputs::{absent_bits, longest};
 use crate::tally::Tally;
 
 impl Update {
@@ -33,11 +34,18 @@ impl Update {
         Update { change, ..self.clone() }.expected().err()
     }
 
+    /// The same with every list delivered.
+    fn all_came(&self) -> Update {
+        let mut all_came = self.clone();
+        all_came.lists.word = u32::MAX;
+        all_came
+    }
+
     /// Whether a number that is added is then a member.
     fn would_be_member(&self, source: &Source) -> bool {
         let Change { list, number, .. } = self.change;
         let mut lists = source.lists.clone();
-        lists[list].push(number);
+        lists[list].get_or_insert_default().push(number);
         source.tree.denoted(&lists).contains(&number)
     }
 }
@@ -46,12 +54,27 @@ pub fn refused(tally: &mut Tally, case: &Update, refused: u32) {
     let Change { list, adds, .. } = case.change;
     let Ok(source) = evaluator::source(&case.lists, &case.packed, Begin::default()) else {
         tally.edge("lists or expression ahead of 4 for the list", list >= case.lists.ends.len());
+        let names = refused == 18;
+        tally.edge(
+            "18 of the expression ahead of 4 for the list",
+            names && list >= case.lists.ends.len(),
+        );
+        tally.edge("18 of the expression alone", names && case.all_came().expected().is_ok());
+        tally.edge("10 by the word", refused == 10 && case.all_came().expected().is_ok());
         return;
     };
     let Kept { row, count } = &case.kept;
     let members = source.set.len();
     tally.edge("4 for the list", refused == 4);
+    tally.edge("18 for the list", refused == 18);
     match refused {
+        18 => {
+            let behind = case.all_came().expected().err();
+            tally.edge("18 for the list and nothing else", behind.is_none());
+            tally.edge("18 for the list ahead of 17", behind == Some(17));
+            tally.edge("18 for the list ahead of 15", behind == Some(15));
+            tally.edge("18 for the list ahead of 6", behind == Some(6));
+        }
         4 => tally.edge("4 ahead of 17", case.behind_4() == Some(17)),
         17 => {
             tally.edge("17, the row too short", *count > row.len());
@@ -87,7 +110,7 @@ pub fn accepted(tally: &mut Tally, case: &Update, updated: &Updated) {
     let Change { list, number, adds } = case.change;
     let Kept { row, count } = &case.kept;
     let Updated { lists, members } = updated;
-    let tree = evaluator::expression::read_packed(&case.packed, lists.ends.len()).expect("an accepted expression");
+    let tree = evaluator::expression::read_packed(&case.packed, lists.ends.len(), lists.word).expect("an accepted expression");
     let was = row[..*count].contains(&number);
     let will = members.contains(&number);
     tally.edge("a member came by adding", adds && !was && will);
@@ -101,6 +124,14 @@ pub fn accepted(tally: &mut Tally, case: &Update, updated: &Updated) {
     tally.edge("the last place for members", !was && will && members.len() == row.len());
     tally.edge("lists before and behind", list > 0 && list + 1 < lists.ends.len());
     tally.edge("32 lists", lists.ends.len() == 32);
+    tally.edge(
+        "another list not delivered",
+        lists.word | absent_bits(lists.ends.len()) != u32::MAX,
+    );
+    tally.edge(
+        "the list behind not delivered",
+        list + 1 < lists.ends.len() && !delivered(lists.word, list + 1),
+    );
     tally.edge("a list emptied", !adds && case.size() == 1);
     tally.edge(
         "a list filled to 65,535",

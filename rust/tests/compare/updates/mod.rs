@@ -6,12 +6,13 @@ mod edges;
 use crate::evaluator::lists::Lists;
 use crate::evaluator::update::{self as model, Change, Kept, Updated};
 use crate::ffi;
+use crate::inputs::same_word;
 use crate::random::{cases, seed};
 use crate::rows::Lent;
 use crate::tally::Tally;
 
 /// The refusals that the call can give.
-pub const REFUSALS: &[usize] = &[1, 2, 3, 4, 5, 6, 7, 10, 11, 15, 16, 17];
+pub const REFUSALS: &[usize] = &[1, 2, 3, 4, 5, 6, 7, 10, 11, 15, 16, 17, 18];
 
 // The case's number is only printed.
 #[allow(dead_code)]
@@ -44,10 +45,12 @@ impl Rows {
         }
     }
 
-    fn lists(&mut self) -> Lists {
+    /// The lists as the rows hold them; the word is no row.
+    fn lists(&mut self, word: u32) -> Lists {
         Lists {
             numbers: self.numbers.row().to_vec(),
             ends: self.ends.row().to_vec(),
+            word,
         }
     }
 
@@ -80,10 +83,20 @@ impl Update {
         let (numbers, ends) = (rows.numbers.row(), rows.ends.row());
         let (members, count) = (rows.members.row(), &mut rows.count.row()[0]);
         let Change { list, number, .. } = self.change;
-        ffi::update(numbers, ends, &self.packed, list, number, self.add, members, count)
+        ffi::update(
+            numbers,
+            ends,
+            self.lists.word,
+            &self.packed,
+            list,
+            number,
+            self.add,
+            members,
+            count,
+        )
     }
 
-    /// The same of the wrapper.
+    /// The same of the wrapper, which is given another word that says the same.
     fn call_wrapper(&self, rows: &mut Rows) -> u32 {
         let (numbers, ends) = (rows.numbers.row(), rows.ends.row());
         let (members, count) = (rows.members.row(), &mut rows.count.row()[0]);
@@ -93,7 +106,8 @@ impl Update {
         } else {
             zwailmoor::Change::Remove(number)
         };
-        let result = zwailmoor::update(numbers, ends, &self.packed, list, change, members, count);
+        let word = same_word(self.lists.word, ends.len());
+        let result = zwailmoor::update(numbers, ends, word, &self.packed, list, change, members, count);
         result.map_or_else(|refusal| refusal.number(), |()| 0)
     }
 
@@ -111,8 +125,8 @@ impl Update {
 
     /// Next calls over the lists as they were left draw the row as it was left.
     fn compare_afresh(&self, rows: &mut Rows) {
-        let (Lists { numbers, ends }, Kept { row, count }) = (rows.lists(), rows.kept());
-        let drawn = zwailmoor::members(&numbers, &ends, &self.packed, 0, numbers.len());
+        let (Lists { numbers, ends, word }, Kept { row, count }) = (rows.lists(self.lists.word), rows.kept());
+        let drawn = zwailmoor::members(&numbers, &ends, word, &self.packed, 0, numbers.len());
         // One more than there can be, so that an iterator that does not end is seen.
         let drawn = drawn.map(|drawn| drawn.take(numbers.len() + 1).collect::<Vec<u32>>());
         assert_eq!(drawn.as_deref(), Ok(&row[..count]), "drawn afresh: {self:#?}");
@@ -122,7 +136,7 @@ impl Update {
     fn compare_taken_back(&self, rows: &mut Rows) {
         let adds = !self.change.adds;
         let opposite = Update {
-            lists: rows.lists(),
+            lists: rows.lists(self.lists.word),
             kept: rows.kept(),
             change: Change { adds, ..self.change },
             add: u8::from(adds),
@@ -130,7 +144,7 @@ impl Update {
         };
         let expected = opposite.expected();
         let mut back = opposite.compare(&expected);
-        let (Lists { numbers, ends }, Kept { row, count }) = (back.lists(), back.kept());
+        let (Lists { numbers, ends, .. }, Kept { row, count }) = (back.lists(self.lists.word), back.kept());
         let used = *ends.last().expect("accepted lists") as usize;
         assert_eq!(ends, self.lists.ends, "taken back: {self:#?}");
         assert_eq!(numbers[..used], self.lists.numbers[..used], "taken back: {self:#?}");

@@ -5,10 +5,10 @@ use Rattle.cases.proofs.trees.expression.Statement.{statement}
 use Rattle.cases.proofs.trees.expression.Tie as tie
 
 abbrev Inv-loop : tie.InvT-loop
-Inv-loop case lists g₀ turn₀ g turn = (1 ≤ g .count) × (g .count ≤ 48)
+Inv-loop case lists word g₀ turn₀ g turn = (1 ≤ g .count) × (g .count ≤ 48)
 
 abbrev μ-loop : tie.MeasureT-loop
-μ-loop case lists g₀ turn₀ g turn = 48 - turn
+μ-loop case lists word g₀ turn₀ g turn = 48 - turn
 
 root-requires : tie.Need-root-requires Inv-loop μ-loop
 root-requires c κs = search needs

@@ -5,10 +5,10 @@ use Rattle.evaluator.proofs.lent.laid.Statement.{statement}
 use Rattle.evaluator.proofs.lent.laid.Tie as tie
 
 abbrev Inv-loop : tie.InvT-loop
-Inv-loop ends row₀ k₀ row k = k ≤ 80
+Inv-loop ends word row₀ k₀ row k = k ≤ 80
 
 abbrev μ-loop : tie.MeasureT-loop
-μ-loop ends row₀ k₀ row k = 80 - k
+μ-loop ends word row₀ k₀ row k = 80 - k
 
 loop-holds : tie.Need-loop-holds Inv-loop μ-loop
 loop-holds c = search needs
