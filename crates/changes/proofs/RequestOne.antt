@@ -24,7 +24,7 @@ use Rattle.model.proofs.Order.{and-true, not-both, Up}
 use Rattle.model.proofs.Denoted.{members-up, members-are, from-all}
 use Rattle.model.proofs.Accepted.{bound, Accepted-lists, lists-accepted}
 use Rattle.model.proofs.Deliveries.{Storable}
-use Rattle.model.proofs.Laid.{ends-length, numbers-append, laid-numbers, lists-length, laid-over, storable-accepted, accepted-empty}
+use Rattle.model.proofs.Laid.{ends-length, numbers-append, laid-numbers, laid-over, storable-accepted, accepted-many, accepted-empty}
 use Rattle.model.proofs.Word.{empty-holds, empty-set}
 use Rattle.model.proofs.DemandThree.{source-accepted, up, drawn}
 use Rattle.model.proofs.Told.{zero-accepts, sent-number}
@@ -91,11 +91,8 @@ pub written-many : (w row : List ℕ) → length w ≤ length row → length (w 
 written-many w row h = length-append w (drop (length w) row) ∙ omega (arith, length-drop (length w) row)
 
 -- accepted lists have an end each, before a change and after it
-lists-many : (l : Lent) (ls : List (List ℕ)) → lists-of l ≡ accepted ls → length ls ≡ length (l .ends)
-lists-many l ls e = ap length (sym (lists-accepted l ls e .are)) ∙ lists-length (l .numbers) 0 (l .ends)
-
 pub ends-many : (l : Lent) (c : Change) (ls : List (List ℕ)) → lists-of l ≡ accepted ls → length (ends-from 0 (new-lists c ls)) ≡ length (l .ends)
-ends-many l c ls e = ends-length 0 (new-lists c ls) ∙ new-many c ls ∙ lists-many l ls e
+ends-many l c ls e = ends-length 0 (new-lists c ls) ∙ new-many c ls ∙ accepted-many l ls e
 
 -- where the last list ends
 last-is : (start : ℕ) (ls : List (List ℕ)) → getD (start ∷ ends-from start ls) (length (ends-from start ls)) 0 ≡ start + length (all-numbers ls)
@@ -219,12 +216,12 @@ module _ (l : Lent) (expression : List ℕ) (c : Change) (kept : List ℕ) (coun
       )
 
   only-4 : update l expression c kept count .number ≡ 4 → length (s .lists) ≤ c .list
-  only-4 h = omega (arith, lists-many l (s .lists) (source-accepted l expression s is .0), ltb-false (c .list) (length (l .ends)) (is-false _ (tested .only-4 h)))
+  only-4 h = omega (arith, accepted-many l (s .lists) (source-accepted l expression s is .0), ltb-false (c .list) (length (l .ends)) (is-false _ (tested .only-4 h)))
 
   only-18 : update l expression c kept count .number ≡ 18 → (c .list < length (s .lists)) × (delivered (l .word) (c .list) ≡ false)
   only-18 h =
       let o = tested .only-18 h in
-      (omega (arith, lists-many l (s .lists) (source-accepted l expression s is .0), ltb-true (c .list) (length (l .ends)) (is-true _ (o .0))), is-false _ (o .1))
+      (omega (arith, accepted-many l (s .lists) (source-accepted l expression s is .0), ltb-true (c .list) (length (l .ends)) (is-true _ (o .0))), is-false _ (o .1))
 
   only-17 : update l expression c kept count .number ≡ 17 → count ≡ length (shown s) → take count kept ≡ shown s → ⊥
   unfolding shows
@@ -300,7 +297,7 @@ module _ (l : Lent) (expression : List ℕ) (c : Change) (kept : List ℕ) (coun
     back = left-by l c kept s
 
     has-list : c .list < length (s .lists)
-    has-list = omega (arith, p .named, lists-many l (s .lists) are-lists)
+    has-list = omega (arith, p .named, accepted-many l (s .lists) are-lists)
 
     -- ---- the lists: accepted again, and the members drawn from them
 
@@ -447,7 +444,7 @@ over-source l expression c kept count n low s is =
       only-15 = only-15 l expression c kept count s is;
       only-16 = only-16 l expression c kept count s is n;
       only-6 = only-6 l expression c kept count s is n;
-      past-4 = λ o. omega (arith, past-4 l expression c kept count s is o, lists-many l (s .lists) (source-accepted l expression s is .0));
+      past-4 = λ o. omega (arith, past-4 l expression c kept count s is o, accepted-many l (s .lists) (source-accepted l expression s is .0));
       past-18 = past-18 l expression c kept count s is;
       past-17 = past-17 l expression c kept count s is;
       past-15 = λ o. absent-or-present (c .adds) _ (past-15 l expression c kept count s is o);

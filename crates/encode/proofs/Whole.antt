@@ -1,7 +1,7 @@
 -- Writing a delivery whole: what each outcome of the tests hands back, how long a delivery is, and that the three pieces that
 -- are put make it. Assumes nothing.
 use mathlib.Core.Path.{_≡_, _∙_}
-use mathlib.Core.Bool.{Bool, true, false, _&&_}
+use mathlib.Core.Bool.{true, false, _&&_}
 use mathlib.Core.List.{List, [], _∷_, _++_, flatMap}
 use Prim.Native.Nat.{ℕ, suc, _+_, _-_, _*_, _/_, _≤_, _<_}
 use native.Mathlib.Omega.{arith}
@@ -10,7 +10,7 @@ use lib.ListN.{length, drop, length-append, length-take}
 use borrow.Author.Tests.{le-leb, lt-leb, leb-true}
 use Rattle.model.specs.Outcome.{over, sent}
 use Rattle.model.specs.Lists.{Numbers, all-ascending, part, lists-from, count-holds, ends-hold, delivered, word-holds, lend, lists-of}
-use Rattle.model.specs.Fields.{Bytes, field, bytes}
+use Rattle.model.specs.Fields.{Bytes, field}
 use Rattle.model.specs.Delivery.{Supplied, delivery, delivery-in, supplied-from, supplied}
 use Rattle.model.specs.Calls.{written, stored, encode-delivery}
 use Rattle.model.proofs.Order.{and-true}

@@ -13,7 +13,7 @@ use lib.Seq.{take-add, drop-drop, drop-nil, take-nil, take-append-add, drop-appe
 use Rattle.model.specs.Outcome.{accepted, require, _>>_}
 use Rattle.model.specs.Fields.{field, bits, value, take-field, zeros}
 use Rattle.model.proofs.Accepted.{value-lt, required, accepted-same}
-use Rattle.model.proofs.Bits.{field-length, field-high, value-field, bits-length}
+use Rattle.model.proofs.Bits.{field-length, field-high, value-field, bits-length, bits-append}
 use Rattle.model.proofs.Sources.{seen, tested}
 use borrow.Author.Tests.{leb-true, ne-eqb}
 use Rattle.fields.specs.Positions.{take-at}
@@ -55,11 +55,6 @@ pub field-join : (a b m n : ℕ) → n < 2 ^ b → field (a + b) (m * 2 ^ b + n)
 field-join a b m n h = field-split a b (m * 2 ^ b + n) ∙ ap₂ (λ (k : ℕ) (l : List Bool). field a k ++ l) (high m b h) (field-high b m n)
 
 -- ---- bits of bytes
-
-pub bits-append : (s t : List ℕ) → bits (s ++ t) ≡ bits s ++ bits t
-unfolding bits
-bits-append [] t = refl
-bits-append (b ∷ s) t = ap (λ (l : List Bool). field 8 b ++ l) (bits-append s t) ∙ sym (append-assoc (field 8 b) (bits s) (bits t))
 
 pub bits-drop : (n : ℕ) (s : List ℕ) → drop (8 * n) (bits s) ≡ bits (drop n s)
 unfolding bits

@@ -11,12 +11,12 @@ use lib.ListN.{length, take, drop, set, replicate, length-append, length-replica
 use lib.Dec.{eqb}
 use lib.Seq.{set-split, getD-drop}
 use Rattle.model.specs.Fields.{Bytes, field, bits, value, fill, bytes}
-use Rattle.model.proofs.Bits.{field-length, field-high, field-value, filled, fill-only, bytes-are, bits-length}
+use Rattle.model.proofs.Bits.{field-length, field-high, field-value, filled, fill-only, bytes-are, bits-length, bits-append}
 use Rattle.model.proofs.Accepted.{value-lt}
 use Rattle.fields.specs.Rows.{lay}
 use Rattle.fields.specs.Positions.{put-bits}
 use Rattle.fields.proofs.Rows.{lay-nil, lay-length, lay-append, lay-around}
-use Rattle.fields.proofs.Fields.{field-split, field-join, bits-append, bits-drop, bits-take, before, behind, behind-length}
+use Rattle.fields.proofs.Fields.{field-split, field-join, bits-drop, bits-take, before, behind, behind-length}
 
 -- whole bytes of bits
 bits-bytes : (bs : List Bool) (n : ℕ) → length bs ≡ 8 * n → bits (bytes bs) ≡ bs

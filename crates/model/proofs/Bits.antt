@@ -150,6 +150,11 @@ unfolding bits
 bits-length [] = refl
 bits-length (b ∷ bs) = omega (arith, length-append (field 8 b) (bits bs), field-length 8 b, bits-length bs)
 
+pub bits-append : (s t : List ℕ) → bits (s ++ t) ≡ bits s ++ bits t
+unfolding bits
+bits-append [] t = refl
+bits-append (b ∷ s) t = ap (λ (l : List Bool). field 8 b ++ l) (bits-append s t) ∙ sym (append-assoc (field 8 b) (bits s) (bits t))
+
 -- bytes are those of their bits less the fill
 fill-bytes : (bs : List ℕ) → Bytes bs → (xs : List Bool) (k : ℕ) → k < 8 → bits bs ≡ xs ++ replicate k false → fill (length bs) xs ≡ bs
 unfolding bits fill

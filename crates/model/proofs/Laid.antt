@@ -13,7 +13,7 @@ use Rattle.model.specs.Outcome.{refused, accepted}
 use Rattle.model.specs.Lists.{Numbers, ascending, all-ascending, part, lists-from, count-holds, ends-hold, word-holds, Lent, lend, lists-of, or-empty, span-of, part-of}
 use Rattle.model.specs.Sets.{all-numbers}
 use Rattle.model.specs.Delivery.{Supplied, came, supplied-numbers, supplied, word-of}
-use Rattle.model.specs.Calls.{ends-from, laid-with, laid-out}
+use Rattle.model.specs.Calls.{ends-from, laid-out}
 use Rattle.model.proofs.Order.{and-true, Up}
 use Rattle.model.proofs.Denoted.{up-ascending}
 use Rattle.model.proofs.Accepted.{numbers-part, ascending-up, lists-accepted}
@@ -86,9 +86,6 @@ unfolding lists-of
 laid-over word ls rest c s h =
     rw (ends-length 0 ls, c, laid-ends (length (all-numbers ls ++ rest)) 0 ls s (omega (arith, length-append (all-numbers ls) rest)), h, laid-from [] ls rest, laid-rise ls s)
 
-pub laid : (word : ℕ) (ls : List (List ℕ)) → count-holds (length ls) ≡ true → Storable ls → word-holds word 0 0 (ends-from 0 ls) ≡ true → lists-of (laid-with word ls) ≡ accepted ls
-laid word ls c s h = ap (λ (r : List ℕ). lists-of (lend r (ends-from 0 ls) word)) (sym (append-nil (all-numbers ls))) ∙ laid-over word ls [] c s h
-
 -- so are those of a delivery
 pub laid-supplied : (ss : List Supplied) (rest : List ℕ) → count-holds (length ss) ≡ true → Storable (map supplied-numbers ss) → let ls = map supplied-numbers ss in lists-of (lend (all-numbers ls ++ rest) (ends-from 0 ls) (word-of ss)) ≡ accepted ls
 laid-supplied ss rest c s = laid-over (word-of ss) (map supplied-numbers ss) rest (ap count-holds (length-map ss supplied-numbers) ∙ c) s (said-holds (word-of ss) 0 0 ss (word-said ss (at-most-32 (length ss) c)))
@@ -121,6 +118,10 @@ storable-accepted l ls n e =
     let a = lists-accepted l ls e in
     rw (← a .are) (lists-storable (l .numbers) 0 (l .ends) n (a .hold) (a .rise), ap count-holds (lists-length (l .numbers) 0 (l .ends)) ∙ a .count)
 
+-- as many as ends
+pub accepted-many : (l : Lent) (ls : List (List ℕ)) → lists-of l ≡ accepted ls → length ls ≡ length (l .ends)
+accepted-many l ls e = ap length (sym (lists-accepted l ls e .are)) ∙ lists-length (l .numbers) 0 (l .ends)
+
 -- of which the undelivered ones are empty
 pub accepted-empty : (l : Lent) (ls : List (List ℕ)) → lists-of l ≡ accepted ls → Empty-where (l .word) 0 ls
 accepted-empty l ls e = let a = lists-accepted l ls e in subst (Empty-where (l .word) 0) (a .are) (undelivered-empty (l .word) 0 (l .numbers) 0 (l .ends) (a .told))
@@ -150,7 +151,7 @@ pub part-is : (l : Lent) (ls : List (List ℕ)) (k : ℕ) → lists-of l ≡ acc
 unfolding part-of span-of or-empty
 part-is l ls k e lt =
     let a = lists-accepted l ls e in
-    let n : length ls ≡ length (l .ends) = ap length (sym (a .are)) ∙ lists-length (l .numbers) 0 (l .ends) in
+    let n = accepted-many l ls e in
     rw (e, lt-ltb k (length ls) lt) (ap (λ (m : List (List ℕ)). take (length (getD m k [])) (drop (getD (0 ∷ l .ends) k 0) (l .numbers))) (sym (a .are)) ∙ starts (l .numbers) 0 (l .ends) k (a .hold) (omega arith) ∙ ap (λ (m : List (List ℕ)). getD m k []) (a .are))
 
 -- the empty part at the start, where no such list is there or a test refuses the lists

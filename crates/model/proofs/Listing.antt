@@ -12,7 +12,7 @@ use Rattle.model.specs.declared.Reply.the-variants.{Member, Finished}
 use Rattle.model.specs.Outcome.{accepted}
 use Rattle.model.specs.Expression.{Tree}
 use Rattle.model.specs.Sets.{member, members}
-use Rattle.model.specs.Run.{starting, run, Source, named-in, source-of}
+use Rattle.model.specs.Run.{starting, Source, named-in, source-of}
 use Rattle.model.specs.Forms.{read-packed}
 use Rattle.model.specs.Delivery.{Supplied, supplied-numbers, read-delivery}
 use Rattle.model.specs.Calls.{laid-out}

@@ -11,7 +11,7 @@ use lib.ListN.{length}
 use Rattle.model.specs.Outcome.{Outcome, refused, accepted, _>>=_, _>>_, require}
 use Rattle.model.specs.Lists.{top, count-holds}
 use Rattle.model.specs.Fields.{bits, take-field, only-fill}
-use Rattle.model.specs.Delivery.{largest-gap, width, Form, by-count, read-gaps, read-body, read-list, read-lists, read-in, Supplied, take-count, by-bit, read-stored, read-delivery}
+use Rattle.model.specs.Delivery.{largest-gap, width, Form, by-count, read-gaps, read-body, read-list, read-lists, read-in, take-count, by-bit, read-stored, read-delivery, read-old-delivery}
 use Rattle.model.proofs.Accepted.{never-accepted}
 
 refused-same : {A : Type 0} {n m : ℕ} → _≡_ {A = Outcome A} (refused n) (refused m) → n ≡ m
@@ -114,6 +114,15 @@ by-bit-not bs = not-then (take-field 1 bs) _ (field-not 1 bs) (λ r. count-not (
     count-not : (bit : ℕ) (bs : List Bool) → Not-6 (take-count take-field bit bs)
     count-not zero bs = right-not
     count-not (suc bit) bs = not-then (take-field 16 bs) _ (field-not 16 bs) (λ r. right-not)
+
+-- ---- 01's form
+
+pub old-only-6 : (numbers-room ends-room : ℕ) (bs : List ℕ) → Not-6 (read-old-delivery numbers-room ends-room bs) → read-stored by-count bs ≡ read-old-delivery numbers-room ends-room bs
+unfolding read-old-delivery
+old-only-6 numbers-room ends-room bs = room-only-6 by-count (some numbers-room) (some ends-room) bs
+
+pub old-not-6 : (bs : List ℕ) → Not-6 (read-stored by-count bs)
+old-not-6 bs = stored-not-6 by-count by-count-not bs
 
 -- ---- Two's form
 

@@ -27,7 +27,7 @@ use Rattle.model.proofs.Shape.{row-long}
 use Rattle.model.proofs.Told.{Told, Success-of, told-then, told-test, told-right, succeeded, lists-told, there-told, row-told, packed-told, delivery-told}
 
 -- what was written off the front of a row
-front : (xs lent : List ℕ) → wrote (wrote-all xs lent) ≡ xs
+pub front : (xs lent : List ℕ) → wrote (wrote-all xs lent) ≡ xs
 front xs lent = take-append-seam xs (drop (length xs) lent)
 
 -- ---- expressions: both calls read one form and write the other
@@ -150,6 +150,26 @@ write-room l lent ls e z =
     let same : b .got ≡ ls = accepted-same (sym (b .first) ∙ e) in
     subst (λ (ls : List (List ℕ)). length (delivery (supplied (l .word) ls)) ≤ length lent) same (stored-room (delivery (supplied (l .word) (b .got))) lent (s .got) (b .rest))
 
+-- what decoding leaves of a delivery that reads
+pub record Decoded (bytes numbers ends : List ℕ) (ss : List Supplied) : Type 0 where
+  pub number : decode-delivery bytes numbers ends .number ≡ 0
+  pub lists : lists-of (left-lent (decode-delivery bytes numbers ends)) ≡ accepted (map supplied-numbers ss)
+  pub word : left-lent (decode-delivery bytes numbers ends) .word ≡ word-of ss
+
+pub decoded-as : (bytes numbers ends : List ℕ) (ss : List Supplied) → read-delivery (length numbers) (length ends) bytes ≡ accepted ss → Decoded bytes numbers ends ss
+decoded-as bytes numbers ends ss e =
+    let sends = read-sends bytes numbers ends ss e in
+    let held = delivery-holds (length numbers) (length ends) bytes ss e in
+    let ls : List (List ℕ) = map supplied-numbers ss in
+    let rest : List ℕ = drop (length (all-numbers ls)) numbers in
+    record {
+      number = ap (λ (s : Sent). s .number) sends;
+      lists = ap (λ (s : Sent). lists-of (left-lent s)) sends
+          ∙ ap (λ (stops : List ℕ). lists-of (lend (all-numbers ls ++ rest) stops (word-of ss))) (lists-there (length ss) ends ls (sym (length-map ss supplied-numbers)))
+          ∙ laid-supplied ss rest (held .count) (held .storable);
+      word = ap (λ (s : Sent). left-lent s .word) sends;
+    }
+
 lists-back : (l : Lent) (bytes lent-numbers lent-ends : List ℕ) → Numbers (l .numbers) → (ls : List (List ℕ)) → lists-of l ≡ accepted ls
     → encode-delivery l bytes .number ≡ 0 → length (all-numbers ls) ≤ length lent-numbers → length ls ≤ length lent-ends
     → let s = decode-delivery (wrote (encode-delivery l bytes)) lent-numbers lent-ends in (s .number ≡ 0) × (lists-of (left-lent s) ≡ accepted ls) × (left-lent s .word ≡ word-there (length ls) (l .word))
@@ -162,14 +182,8 @@ lists-back l bytes lent-numbers lent-ends small ls e z room-numbers room-ends =
     let storable = subst Storable (sym are) (held .0) in
     let there : wrote (encode-delivery l bytes) ≡ delivery ss = ap wrote (write-sends l bytes ls e (write-room l bytes ls e z)) ∙ front (delivery ss) bytes in
     let reads = delivery-written (length lent-numbers) (length lent-ends) ss count storable (subst (λ (m : List (List ℕ)). length (all-numbers m) ≤ length lent-numbers) (sym are) room-numbers) (rw many room-ends) in
-    let sends = ap (λ (b : List ℕ). decode-delivery b lent-numbers lent-ends) there ∙ read-sends (delivery ss) lent-numbers lent-ends ss reads in
-    let rest : List ℕ = drop (length (all-numbers (map supplied-numbers ss))) lent-numbers in (
-      ap (λ (s : Sent). s .number) sends,
-      ap (λ (s : Sent). lists-of (left-lent s)) sends
-          ∙ ap (λ (stops : List ℕ). lists-of (lend (all-numbers (map supplied-numbers ss) ++ rest) stops (word-of ss))) (lists-there (length ss) lent-ends (map supplied-numbers ss) (sym (length-map ss supplied-numbers)))
-          ∙ laid-supplied ss rest count storable ∙ ap accepted are,
-      ap (λ (s : Sent). left-lent s .word) sends ∙ word-back (l .word) ls (at-most-32 (length ls) (held .1)),
-    )
+    let d = decoded-as (wrote (encode-delivery l bytes)) lent-numbers lent-ends ss (ap (read-delivery (length lent-numbers) (length lent-ends)) there ∙ reads) in
+    (d .number, d .lists ∙ ap accepted are, d .word ∙ word-back (l .word) ls (at-most-32 (length ls) (held .1)))
 
 delivery-back : (bytes lent-numbers lent-ends lent : List ℕ) → Bytes bytes → decode-delivery bytes lent-numbers lent-ends .number ≡ 0 → length bytes ≤ length lent
     → encode-delivery (left-lent (decode-delivery bytes lent-numbers lent-ends)) lent ≡ wrote-all bytes lent

@@ -12,10 +12,8 @@ use Rattle.model.specs.declared.Node.the-variants.{Leaf, Difference, Uni
 use Rattle.model.specs.Outcome.{Outcome, refused, accepted, _>>=_, _>>_, require, number-of, Success, sent}
 use Rattle.model.specs.Lists.{top, all-ascending, lists-from, count-holds, ends-hold, delivered, word-holds, Lent, lists-of}
 use Rattle.model.specs.Expression.{Tree}
-use Rattle.model.specs.Run.{named-in, source-of}
 use Rattle.model.specs.Fields.{bits, take-field, only-fill}
 use Rattle.model.specs.Forms.{node-of, take-byte, take-rest, take-kind, take-node, Leaf-test, there, read-members, operator, read-below, read-tree, read-row, read-packed}
-use Rattle.model.specs.Update.{Change, shown, changed, shows, is-new, has-room, fits, update-of}
 use Rattle.model.proofs.Accepted.{never-accepted}
 use Rattle.model.specs.Delivery.{largest-gap, width, read-gaps, read-body, Form, by-count, read-list, read-lists, read-in, take-count, by-bit, read-stored, read-delivery}
 

@@ -2,7 +2,7 @@
 use mathlib.Core.Path.{_≡_, refl, sym, ap, ap₂, _∙_}
 use mathlib.Core.Bool.{Bool, true, false, _&&_, _||_, cond}
 use mathlib.Core.List.{List, [], _∷_, _++_, map}
-use Prim.Native.Nat.{ℕ, zero, suc, _+_, _-_, _^_, _≤_, _<_}
+use Prim.Native.Nat.{ℕ, zero, suc, _+_, _-_, _≤_, _<_}
 use native.Mathlib.Omega.{arith}
 use native.Mathlib.Nat.{add-zero, zero-add}
 use lib.Dec.{eqb}
@@ -14,7 +14,6 @@ use Rattle.model.specs.Delivery.{Supplied, undelivered, came, supplied-n
 use Rattle.model.specs.Calls.{ends-from}
 use Rattle.model.specs.Demands.{word-there}
 use Rattle.model.proofs.Order.{and-true, not-both}
-use Rattle.model.proofs.Accepted.{value-lt}
 use Rattle.model.proofs.Bits.{field-length, field-value}
 
 -- ---- a word made of bits
@@ -35,14 +34,7 @@ said-by bs k h =
     let n : length all ≡ 32 = omega (arith, length-append bs (replicate (32 - length bs) false), length-replicate (32 - length bs) false) in
     ap (λ (l : List Bool). getD l k false) (ap (λ (w : ℕ). field w (value all)) (sym n) ∙ field-value all) ∙ filled-up bs (32 - length bs) k
 
--- the word of what was supplied is a 32-bit word, and says of each list whether it came
-pub word-small : (ss : List Supplied) → length ss ≤ 32 → word-of ss < 2 ^ 32
-unfolding word-of
-word-small ss h =
-    let all : List Bool = map is-delivered ss ++ replicate (32 - length ss) false in
-    let n : length all ≡ 32 = omega (arith, length-append (map is-delivered ss) (replicate (32 - length ss) false), length-replicate (32 - length ss) false, length-map ss is-delivered) in
-    rw n at (value-lt all)
-
+-- the word of what was supplied says of each list whether it came
 pub word-says : (ss : List Supplied) (k : ℕ) → length ss ≤ 32 → delivered (word-of ss) k ≡ getD (map is-delivered ss) k false
 unfolding word-of
 word-says ss k h = let n = length-map ss is-delivered in ap (λ (m : ℕ). delivered (value (map is-delivered ss ++ replicate (32 - m) false)) k) (sym n) ∙ said-by (map is-delivered ss) k (omega (arith, n))

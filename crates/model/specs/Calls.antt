@@ -55,12 +55,9 @@ unfoldable pub ends-from : ℕ → List (List ℕ) → List ℕ
 ends-from start [] = []
 ends-from start (l ∷ ls) = (start + length l) ∷ ends-from (start + length l) ls
 
--- lists laid one after the other, as they are lent with their word; those of a delivery
-abbrev pub laid-with : ℕ → List (List ℕ) → Lent
-laid-with word ls = lend (all-numbers ls) (ends-from 0 ls) word
-
+-- the lists of a delivery laid one after the other, as they are lent with their word
 abbrev pub laid-out : List Supplied → Lent
-laid-out ss = laid-with (word-of ss) (map supplied-numbers ss)
+laid-out ss = lend (all-numbers (map supplied-numbers ss)) (ends-from 0 (map supplied-numbers ss)) (word-of ss)
 
 -- packed expression to row form: "Reading checks 7 first"; "After the last: 5, then 6"; the nodes. Two: "Reading an
 -- expression takes the word too"

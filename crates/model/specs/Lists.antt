@@ -53,7 +53,7 @@ ends-hold size start (stop ∷ ends) = leb start stop && (leb stop size && (leb 
 unfoldable pub delivered : ℕ → ℕ → Bool
 delivered word k = getD (field 32 word) k false
 
--- nor does it for the word: "An undelivered list has equal start and end; a word that contradicts this is sent back as
+-- 10 does not apply for the word either: "An undelivered list has equal start and end; a word that contradicts this is sent back as
 -- 10"; from list k on, which starts at `start`
 unfoldable pub word-holds : ℕ → ℕ → ℕ → List ℕ → Bool
 word-holds word k start [] = true

@@ -3,47 +3,39 @@
 -- are numbers, which their type says.
 use mathlib.Core.Path.{_≡_, refl, sym, ap, ap₂, _∙_, subst}
 use mathlib.Core.Bool.{Bool, true, false, _&&_, _||_, cond}
-use mathlib.Core.List.{List, [], _∷_, _++_, append-assoc, map}
+use mathlib.Core.List.{List, [], _∷_, _++_, map}
 use mathlib.Core.Option.{none}
 use Prim.Native.Nat.{ℕ, zero, suc, _+_, _≤_, _<_}
 use native.Mathlib.Omega.{arith}
 use native.Mathlib.Nat.{add-zero, zero-add}
 use lib.Dec.{ltb, leb, eqb}
 use borrow.Author.Tests.{lt-ltb, le-ltb, lt-leb, le-leb, ne-eqb}
-use lib.ListN.{length, getD, drop, replicate, length-replicate, length-map}
-use lib.Seq.{take-append-seam}
-use Rattle.model.specs.Outcome.{Outcome, refused, accepted, _>>=_, _>>_, require, number-of, Success, Sent, sent, over}
+use lib.ListN.{length, getD, replicate, length-replicate, length-map}
+use Rattle.model.specs.Outcome.{Outcome, refused, accepted, _>>=_, _>>_, require, Success, Sent, sent}
 use Rattle.model.specs.Lists.{top, Numbers, lists-from, count-holds, ends-hold, delivered, word-holds, Lent, lend, lists-of, or-empty, span-of}
 use Rattle.model.specs.Expression.{Tree, size}
 use Rattle.model.specs.Sets.{all-numbers}
 use Rattle.model.specs.Run.{Start, Source, named-in, source-of, run-of}
-use Rattle.model.specs.Fields.{Bytes, field, bits, value, take-field, only-fill}
+use Rattle.model.specs.Fields.{Bytes, bits, value, take-field, only-fill}
 use Rattle.model.specs.Forms.{row, packed, there, take-byte, take-node, read-tree, read-row, read-packed}
 use Rattle.model.specs.Delivery.{by-count, Supplied, undelivered, came, supplied-numbers, is-delivered, all-delivered, by-bit, read-stored, delivery, read-delivery, old-delivery, supplied-from, supplied, word-of}
 use Rattle.model.specs.Calls.{ends-from, laid-out, run-size, unpack-expression, pack-expression, decode-delivery, stored, encode-delivery, upgrade-delivery, downgrade-delivery, run-call}
 use Rattle.model.specs.Program.{halves, listing-of, listing}
-use Rattle.model.specs.Demands.{Named, wrote, left-lent, wrote-all, word-there, Second-demand}
+use Rattle.model.specs.Demands.{Named, wrote, left-lent, wrote-all, word-there}
 use Rattle.model.specs.Update.{Change, changed, shown, shows, is-new, has-room, fits, update-of, update}
 use Rattle.model.specs.RequestTwo.{refused-by, every-bit, Same-there, all-came, Contradicted, Ignored, Not-answered, Undelivered, Request-two}
 use Rattle.model.proofs.Order.{not-both, split}
 use Rattle.model.proofs.Accepted.{lists-accepted, accepted-same, bound, required, row-reads, packed-reads}
 use Rattle.model.proofs.Deliveries.{by-count-reads-back, by-bit-reads-back, form-same, delivery-holds, came-numbers, numbers-came, came-all, old-as-new, new-as-old, stored-too, stored-fits}
+use Rattle.model.proofs.Bits.{bits-append}
 use Rattle.model.proofs.Word.{word-says, word-absent, word-back, supplied-length, Empty-where}
-use Rattle.model.proofs.Laid.{at-most-32, ends-length, lists-length, laid-supplied, storable-accepted, accepted-empty}
+use Rattle.model.proofs.Laid.{at-most-32, ends-length, storable-accepted, accepted-many, accepted-empty}
 use Rattle.model.proofs.DemandThree.{source-accepted, demand-three}
 use Rattle.model.proofs.Told.{Success-of, told-then, told-test, sent-number, succeeded, lists-told, old-told, stored-told as read-told}
-use Rattle.model.proofs.RoundTrips.{second-demand, stored-told, stored-sends, stored-room, read-sends, read-by, lists-there}
+use Rattle.model.proofs.RoundTrips.{front, second-demand, stored-told, stored-sends, stored-room, read-by, decoded-as}
 use Rattle.supplied.proofs.Judged.{judge, tree-judged, packed-judged, row-judged, or-18, judged-18, named-came}
 use Rattle.supplied.proofs.Behind.{tree-on, byte-on, packed-on}
-use Rattle.supplied.proofs.Only18.{From, from-right, from-then, from-and, from-test, packed-from, row-from, there-from, source-from}
-
--- what was written off the front of a row
-front : (xs lent : List ℕ) → wrote (wrote-all xs lent) ≡ xs
-front xs lent = take-append-seam xs (drop (length xs) lent)
-
--- accepted lists have an end each
-lists-many : (l : Lent) (ls : List (List ℕ)) → lists-of l ≡ accepted ls → length ls ≡ length (l .ends)
-lists-many l ls e = ap length (sym (lists-accepted l ls e .are)) ∙ lists-length (l .numbers) 0 (l .ends)
+use Rattle.supplied.proofs.Only18.{from-right, from-then, from-and, from-test, packed-from, row-from, there-from, source-from}
 
 -- ---- words that differ only in bits of lists that are not there
 
@@ -96,7 +88,7 @@ module _ (l : Lent) (other : ℕ) (h : Same-there (length (l .ends)) (l .word) o
     where
       go : (o : Outcome (List (List ℕ))) → lists-of l ≡ o → sent 1 (lent ∷ []) (o >>= λ ls. stored (delivery (supplied (l .word) ls)) lent) ≡ sent 1 (lent ∷ []) (o >>= λ ls. stored (delivery (supplied other ls)) lent)
       go (refused n) e = refl
-      go (accepted ls) e = ap (λ (ss : List Supplied). sent 1 (lent ∷ []) (stored (delivery ss) lent)) (same-supplied (l .word) other 0 ls (on (length ls) (lists-many l ls e)))
+      go (accepted ls) e = ap (λ (ss : List Supplied). sent 1 (lent ∷ []) (stored (delivery ss) lent)) (same-supplied (l .word) other 0 ls (on (length ls) (accepted-many l ls e)))
 
   ignored : Ignored l m
   unfolding run-call run-of update update-of fits
@@ -159,7 +151,7 @@ empty-at word k (l ∷ ls) (suc j) h d = let e : k + suc j ≡ suc k + j = omega
 
 own-place : (l : Lent) (ls : List (List ℕ)) → lists-of l ≡ accepted ls → (k : ℕ) → k < length (l .ends) → delivered (l .word) k ≡ false → span-of l k ≡ record { start = getD (0 ∷ l .ends) k 0; size = 0 }
 unfolding span-of or-empty
-own-place l ls e k lt d = rw (e, lt-ltb k (length ls) (omega (arith, lists-many l ls e)), empty-at (l .word) 0 ls k (accepted-empty l ls e) (rw (zero-add k) d)) refl
+own-place l ls e k lt d = rw (e, lt-ltb k (length ls) (omega (arith, accepted-many l ls e)), empty-at (l .word) 0 ls k (accepted-empty l ls e) (rw (zero-add k) d)) refl
 
 -- ---- deliveries: no two byte strings mean one thing; a delivered list and one that was not are told apart
 
@@ -211,7 +203,7 @@ told-apart numbers ends word other k lent small lt here absent z zs same = not-b
         let l : Lent = lend numbers ends w in
         let a = wrote-lists l lent z in
         let ls : List (List ℕ) = a .got in
-        let many = lists-many l ls (a .is) in
+        let many = accepted-many l ls (a .is) in
         let few = at-most-32 (length ls) (storable-accepted l ls small (a .is) .1) in
         let back = second-demand .lists-read-back l lent rows stops small ls (a .is) z (omega (arith, ap (λ (m : List (List ℕ)). length (all-numbers m)) (lists-accepted l ls (a .is) .are), length-replicate {A = ℕ} (length (all-numbers (lists-from numbers 0 ends))) 0)) (omega (arith, many, length-replicate {A = ℕ} (length ends) 0)) in
         ap (λ (v : ℕ). delivered v k) (back .2) ∙ back-says w ls k few (omega (arith, many))
@@ -305,26 +297,6 @@ downgraded bytes lent back small z room =
     ap (λ (b : List ℕ). upgrade-delivery b back) (down-wrote bytes lent z ss (r .is))
     ∙ up-sends (old-delivery (map supplied-numbers ss)) back (map supplied-numbers ss) (new-as-old bytes ss (r .is)) (rw same room) ∙ ap (λ (b : List ℕ). wrote-all b back) same
 
--- what decoding leaves of a delivery that reads
-record Decoded (bytes numbers ends : List ℕ) (ss : List Supplied) : Type 0 where
-  number : decode-delivery bytes numbers ends .number ≡ 0
-  lists : lists-of (left-lent (decode-delivery bytes numbers ends)) ≡ accepted (map supplied-numbers ss)
-  word : left-lent (decode-delivery bytes numbers ends) .word ≡ word-of ss
-
-decoded-as : (bytes numbers ends : List ℕ) (ss : List Supplied) → read-delivery (length numbers) (length ends) bytes ≡ accepted ss → Decoded bytes numbers ends ss
-decoded-as bytes numbers ends ss e =
-    let sends = read-sends bytes numbers ends ss e in
-    let held = delivery-holds (length numbers) (length ends) bytes ss e in
-    let ls : List (List ℕ) = map supplied-numbers ss in
-    let rest : List ℕ = drop (length (all-numbers ls)) numbers in
-    record {
-      number = ap (λ (s : Sent). s .number) sends;
-      lists = ap (λ (s : Sent). lists-of (left-lent s)) sends
-          ∙ ap (λ (stops : List ℕ). lists-of (lend (all-numbers ls ++ rest) stops (word-of ss))) (lists-there (length ss) ends ls (sym (length-map ss supplied-numbers)))
-          ∙ laid-supplied ss rest (held .count) (held .storable);
-      word = ap (λ (s : Sent). left-lent s .word) sends;
-    }
-
 -- every list came
 came-says : (ls : List (List ℕ)) (k : ℕ) → k < length ls → getD (map is-delivered (map came ls)) k false ≡ true
 unfolding is-delivered
@@ -382,11 +354,6 @@ past-19 bytes lent ss e d n = go (leb (length (old-delivery (map supplied-number
     go false n = omega arith
 
 -- ---- 18
-
-bits-append : (s t : List ℕ) → bits (s ++ t) ≡ bits s ++ bits t
-unfolding bits
-bits-append [] t = refl
-bits-append (b ∷ s) t = ap (λ (l : List Bool). field 8 b ++ l) (bits-append s t) ∙ sym (append-assoc (field 8 b) (bits s) (bits t))
 
 all-came-there : (l : Lent) (expression : List ℕ) (s : Source) → source-of l expression ≡ accepted s → all-came (l .word) (s .tree) ≡ true
 all-came-there l expression s e = named-came (length (l .ends)) (l .word) (s .tree) (packed-reads (named-in l) expression (s .tree) (source-accepted l expression s e .1) .named)

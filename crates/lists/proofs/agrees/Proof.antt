@@ -1,10 +1,8 @@
 -- `agrees` meets its contract: a delivered list agrees whatever its ends are. Assumes nothing.
 use borrow.Author.Needs.{needs}
-use mathlib.Core.Path.{_≡_, sym, ap, _∙_}
-use mathlib.Core.Bool.{Bool, true, false, _||_}
-use Prim.Native.Nat.{ℕ}
+use mathlib.Core.Path.{sym, ap, _∙_}
+use mathlib.Core.Bool.{Bool, _||_}
 use lib.Dec.{eqb}
-use Rattle.model.specs.Lists.{delivered}
 use Rattle.lists.proofs.agrees.Statement.{statement}
 use Rattle.lists.proofs.agrees.Tie as tie
 

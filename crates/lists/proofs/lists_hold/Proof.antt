@@ -1,7 +1,7 @@
 -- `lists_hold` meets its contract: the ends first, then the word. Assumes nothing.
 use borrow.Author.Needs.{needs}
 use borrow.Author.Tests.{not-true, not-false}
-use mathlib.Core.Path.{_≡_, sym, ap, _∙_}
+use mathlib.Core.Path.{sym, ap, _∙_}
 use mathlib.Core.Bool.{Bool, _&&_}
 use Rattle.model.specs.Lists.{word-holds}
 use Rattle.lists.proofs.lists_hold.Statement.{statement}

@@ -1,7 +1,7 @@
 -- `word_holds` meets its contract. Before each turn 10 for the word over all ends is that over those that are left, from the
 -- start of their first list; the turn takes one end off. The measure is how many are left. Assumes nothing.
 use mathlib.Core.Path.{_≡_, refl, sym, _∙_}
-use Prim.Native.Nat.{_+_, _-_, _≤_}
+use Prim.Native.Nat.{_-_, _≤_}
 use native.Mathlib.Omega.{arith}
 use borrow.Author.Tests.{not-true, not-false}
 use borrow.Author.Needs.{needs}
