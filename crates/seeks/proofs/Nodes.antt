@@ -1,10 +1,13 @@
 -- The member nodes of an operator where the code finds them, and its step over them. Assumes nothing.
-use mathlib.Core.Path.{_≡_, sym, subst, ap, _∙_}
+use mathlib.Core.Path.{_≡_, refl, sym, subst, ap, _∙_}
+use mathlib.Core.Bool.{Bool, true, false}
 use mathlib.Core.List.{List, [], _∷_}
 use Prim.Native.Nat.{ℕ, _+_, _-_, _≤_, _<_, min}
 use native.Mathlib.Omega.{arith}
 use native.Mathlib.Numerals.{add-one}
+use lib.Dec.{eqb}
 use lib.ListN.{length, getD}
+use borrow.Author.Tests.{eqb-true, eqb-false}
 use Rattle.model.specs.declared.Node.the-variants.{Leaf, Union, Intersection}
 use Rattle.model.specs.Outcome.{accepted}
 use Rattle.model.specs.Lists.{top, Numbers, lists-from}
@@ -19,7 +22,7 @@ use Rattle.reader.specs.Rows.{Stands, Behind, Ready}
 use Rattle.reader.specs.Sought.{found}
 use Rattle.reader.proofs.Standing.{kind, each, below, many-below, leaf-is, union-is, intersection-is, root-is, inside}
 use Rattle.reader.proofs.Members.{first-is, below-at, Split, split, Pair, Comes, comes-last, comes-now, comes-on}
-use Rattle.seeks.proofs.Turns.{seek-each, going, first-ended, differ-stop, differ-turn, intersect-begin, head, tail, each-is, unite-from, unite-end, unite-turn, unite-start, each-end, each-stop, each-turn, intersection-step}
+use Rattle.seeks.proofs.Turns.{seek-each, going, first-ended, differ-stop, differ-turn, holding, holding-stop, holding-turn, intersect-begin, head, tail, each-is, unite-from, unite-end, unite-turn, unite-start, each-end, each-stop, each-turn, intersection-step}
 
 -- what the loops over member nodes go through: a union's with the least answer so far, and those after an intersection's first
 abbrev pub uniting : List (List ℕ) → ℕ → List Tree → ℕ → ℕ × Readers → Found
@@ -62,7 +65,7 @@ module _ (numbers ends nodes behind : List ℕ) (n : Numbers numbers) (r : Ready
       let moved = subst (λ (i : ℕ). seek ls (difference a b) node e rs ≡ differ-with (seek ls (difference a b) node) (seek ls a i) (seek ls b (1 + node + size a)) e rs) (first-is r node) (seek-difference ls up a b node e rs h fits) in
       subst (λ (u : Tree). whole u e rs ≡ differ-with (whole u) (first-seek a) (second-seek b) e rs) (sym (p .is)) (rw (p .after) moved)
 
-  -- how a turn of the loop ends: nothing in the first; the first's answer holds; once more from behind it
+  -- how a step (a) and a step (b) end: nothing in the first; the first's answer holds; once more from behind it
   module _ (t : Tree) (p : Pair r node t) (s : At t node) (e : ℕ) (rs : Readers) (low : e ≤ top) (long : length (rs .places) ≡ 48) (x : ℕ) (rs₁ : Readers) (a : found x rs₁ ≡ first-seek (p .first) e rs) where
     pub both-ended : top ≤ x → found x rs₁ ≡ seek ls t node e rs
     both-ended h = sym (both t p s e rs low long ∙ first-ended (first-seek (p .first)) e rs x rs₁ a _ h)
@@ -73,6 +76,13 @@ module _ (numbers ends nodes behind : List ℕ) (n : Numbers numbers) (r : Ready
 
       pub both-turned : y ≡ x → seek ls t node (x + 1) rs₂ ≡ seek ls t node e rs
       both-turned h = ap (λ (n : ℕ). seek ls t node n rs₂) (add-one x) ∙ sym (both t p s e rs low long ∙ differ-turn (whole t) (first-seek (p .first)) (second-seek (p .second)) e rs x rs₁ a xt y rs₂ c h)
+
+      pub both-held : holding (whole t) x y rs₂ ≡ seek ls t node e rs
+      both-held = go (eqb y x) refl
+        where
+          go : (b : Bool) → eqb y x ≡ b → holding (whole t) x y rs₂ ≡ seek ls t node e rs
+          go true q = let same = eqb-true y x q in holding-turn (whole t) x y rs₂ same ∙ both-turned same
+          go false q = let apart = eqb-false y x q in holding-stop (whole t) x y rs₂ apart ∙ both-stopped apart
 
   -- ---- intersection
   pub record Every (t : Tree) (count : ℕ) : Type 0 where

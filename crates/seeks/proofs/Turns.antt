@@ -55,6 +55,19 @@ module _ (again f g : Seek) (e : ℕ) (rs : Readers) (x : ℕ) (rs₁ : Readers)
     pub differ-turn : y ≡ x → differ-with again f g e rs ≡ again (suc x) rs₂
     differ-turn h = on-at (f e rs) x rs₁ a _ _ low ∙ on-at (g x rs₁) y rs₂ b _ _ (omega arith) ∙ rw (eq-eqb x y (sym h))
 
+-- how a difference goes on from its first's answer x and its second's, y: past x where they are equal, else x holds
+unfoldable pub holding : Seek → ℕ → ℕ → Readers → Found
+holding again x y rs = elim (eqb y x) [ true ↦ again (x + 1) rs | false ↦ found x rs ]
+
+module _ (again : Seek) (x y : ℕ) (rs : Readers) where
+  pub holding-stop : (y ≡ x → ⊥) → holding again x y rs ≡ found x rs
+  unfolding holding
+  holding-stop h = rw (holding, ne-eqb y x h)
+
+  pub holding-turn : y ≡ x → holding again x y rs ≡ again (x + 1) rs
+  unfolding holding
+  holding-turn h = rw (holding, eq-eqb y x h)
+
 -- the first's answer is the candidate, and those after it are gone through
 pub intersect-begin : (again f g : Seek) (e : ℕ) (rs : Readers) (x : ℕ) (rs₁ : Readers) → found x rs₁ ≡ f e rs → x < top → intersect-with again f g e rs ≡ going again x (g x rs₁)
 intersect-begin again f g e rs x rs₁ a low = on-at (f e rs) x rs₁ a _ _ low

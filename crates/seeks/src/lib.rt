@@ -72,7 +72,7 @@ pub fn seek(
 }
 
 // "seek the first to E; finished ends it. Seek the second to that answer. If equal, E becomes the answer plus 1 and the step
-// repeats; else the first's answer holds".
+// repeats; else the first's answer holds": in the report's order, A3(2)(a), A3(2)(b) and the increment of A2(2).
 fn seek_difference(
     numbers: &[u32],
     ends: &[u32],
@@ -92,30 +92,32 @@ fn seek_difference(
     let first = node + 1;
     let second = behind[first];
     let mut readers = start;
-    let mut to = from;
-    let mut x = reader::FINISHED;
-    loop {
-        let place = readers.places[first];
-        let member = reader::read_member(numbers, ends, nodes[first], place, to);
-        x = match member {
-            MemberRead::Still(answer) => answer,
-            MemberRead::Moved(r) => {
-                readers.places[first] = r.place;
-                readers.moves += r.moves;
-                r.answer
-            }
-            MemberRead::Operator => {
-                let s = seek(numbers, ends, nodes, behind, first, readers, to);
-                readers = s.readers;
-                s.answer
-            }
-        };
-        if x == reader::FINISHED {
-            break;
+
+    // One, A3(2)(a), "Increment the first LSG (to or) past D": the first is sought to E, which is `from`, and answers x.
+    let place = readers.places[first];
+    let member = reader::read_member(numbers, ends, nodes[first], place, from);
+    let mut x = match member {
+        MemberRead::Still(answer) => answer,
+        MemberRead::Moved(r) => {
+            readers.places[first] = r.place;
+            readers.moves += r.moves;
+            r.answer
         }
+        MemberRead::Operator => {
+            let s = seek(numbers, ends, nodes, behind, first, readers, from);
+            readers = s.readers;
+            s.answer
+        }
+    };
+
+    // Two, A3(2)(b), "Check the datum of the first LSG against the second LSG": the second is sought to x, and answers y. It is sought,
+    // not checked: the report's check would move other readers. Where the first has finished, so has the difference, D4(2): the second
+    // is not asked, and y stays below x.
+    let mut y = 0;
+    if x != reader::FINISHED {
         let place = readers.places[second];
         let member = reader::read_member(numbers, ends, nodes[second], place, x);
-        let y = match member {
+        y = match member {
             MemberRead::Still(answer) => answer,
             MemberRead::Moved(r) => {
                 readers.places[second] = r.place;
@@ -128,10 +130,49 @@ fn seek_difference(
                 s.answer
             }
         };
-        if y != x {
-            break;
+    }
+
+    // Three, only where the two are equal, the increment of A2(2): "If the check is successful increment the DLSG. If the check is not
+    // successful, the increment is done". Then x holds, also where the second has finished, since FINISHED equals no number.
+    while y == x {
+        // A2(2)(a), "Increment the first LSG": it is sought past its answer.
+        let past = x + 1;
+        let place = readers.places[first];
+        let member = reader::read_member(numbers, ends, nodes[first], place, past);
+        let next = match member {
+            MemberRead::Still(answer) => answer,
+            MemberRead::Moved(r) => {
+                readers.places[first] = r.place;
+                readers.moves += r.moves;
+                r.answer
+            }
+            MemberRead::Operator => {
+                let s = seek(numbers, ends, nodes, behind, first, readers, past);
+                readers = s.readers;
+                s.answer
+            }
+        };
+
+        // A2(2)(b), "Check the current datum of the first LSG against the second LSG. If the check fails, the increment is done. If
+        // the check succeeds, go back to step (a)": sought, as in two; where the first has finished, y stays below next.
+        if next != reader::FINISHED {
+            let place = readers.places[second];
+            let member = reader::read_member(numbers, ends, nodes[second], place, next);
+            y = match member {
+                MemberRead::Still(answer) => answer,
+                MemberRead::Moved(r) => {
+                    readers.places[second] = r.place;
+                    readers.moves += r.moves;
+                    r.answer
+                }
+                MemberRead::Operator => {
+                    let s = seek(numbers, ends, nodes, behind, second, readers, next);
+                    readers = s.readers;
+                    s.answer
+                }
+            };
         }
-        to = x + 1;
+        x = next;
     }
     SeekResult { readers, answer: x }
 }

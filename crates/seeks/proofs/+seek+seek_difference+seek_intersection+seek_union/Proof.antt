@@ -1,9 +1,9 @@
 -- The seek of a node, and the seeks over its member nodes, meet their contracts.
 --
 -- The seek of a node calls that of its kind, which calls the seeks of nodes further on: twice the remaining nodes fall, and one more
--- for the first of these. Difference and intersection keep that the seek from here is the
--- seek from the start, and repeat at a higher number; the loops over member nodes keep the same of the trees that are left. Assumes
--- nothing.
+-- for the first of these. A difference's increment keeps that it goes on from here as from what A3(2)(a) and (b) came to; an
+-- intersection keeps that the seek from here is the seek from the start. Both repeat at a higher number. The loops over member nodes
+-- keep that what the trees that are left come to is what the seek comes to. Assumes nothing.
 use mathlib.Core.Path.{_≡_, refl, sym, ap, subst, _∙_}
 use mathlib.Core.Logic.{_⊎_, inl, inr, ⊎-elim}
 use mathlib.Core.List.{List}
@@ -26,10 +26,10 @@ use Rattle.reader.specs.declared.Readers.{Readers}
 use Rattle.reader.specs.Rows.{Stands, Standing, Standing-each}
 use Rattle.reader.specs.Sought.{readers-of, found, Tallied, Read, Named}
 use Rattle.reader.proofs.Moves.{stepped-fits}
-use Rattle.reader.proofs.Members.{Pair, pair, not-unknown, list-there, first-stands, second-stands, members-stand, inside, goes-on, member-stands, others-stand, Comes}
-use Rattle.seeks.proofs.Turns.{going, going-none, going-stop, going-turn, again-above, again-else}
-use Rattle.seeks.proofs.Nodes.{uniting, following, both-ended, both-stopped, both-turned, Every, every, every-ended, every-begun, unite, unites-last, unites-on, follows-last, follows-stop, follows-on}
-use Rattle.seeks.proofs.Stepping.{Leaves, still, moves}
+use Rattle.reader.proofs.Members.{not-unknown, list-there, first-stands, second-stands, members-stand, inside, goes-on, member-stands, others-stand, Comes}
+use Rattle.seeks.proofs.Turns.{holding, holding-stop, holding-turn, going, going-none, going-stop, going-turn, again-above, again-else}
+use Rattle.seeks.proofs.Nodes.{uniting, following, Every, every, every-ended, every-begun, unite, unites-last, unites-on, follows-last, follows-stop, follows-on}
+use Rattle.seeks.proofs.Stepping.{Leaves, still, moves, Holds, holds-ended, holds-both}
 use Rattle.seeks.proofs.seek.Reads as seek
 use Rattle.seeks.proofs.seek.Kinds as seek-kinds
 use Rattle.seeks.proofs.seek_difference.Reads as difference
@@ -106,17 +106,18 @@ from-union t = (read-member-reads.Asked, read-member-reads.Learnt, seek-below t,
 
 -- ---- what the loops keep
 
+-- the increment of a difference goes on from here as from where it began
+abbrev difference-Inv : D.InvT-loop
+difference-Inv numbers ends nodes behind node from first second readers₀ place₀ x₀ y₀ readers x y =
+    Holds numbers ends nodes node x₀ (λ u. holding (seek-tree (lists-from numbers 0 ends) u node) x₀ y₀ (readers-of readers₀)) x y readers
+
+abbrev difference-μ : D.MeasureT-loop
+difference-μ numbers ends nodes behind node from first second readers₀ place₀ x₀ y₀ readers x y = top - x
+
 -- the seek of any tree that stands at the node, from here, is what it was from the start
 abbrev Same : (numbers ends nodes : List ℕ) → ℕ → ℕ → Readers → ℕ → Readers → Type 0
 Same numbers ends nodes node from start to here =
     (u : Tree) → Stands (length ends) nodes u node → seek-tree (lists-from numbers 0 ends) u node to (readers-of here) ≡ seek-tree (lists-from numbers 0 ends) u node from (readers-of start)
-
-abbrev difference-Inv : D.InvT-loop
-difference-Inv numbers ends nodes behind node from first second readers₀ to₀ readers to =
-    (from ≤ to) × (to ≤ top) × Tallied readers × Same numbers ends nodes node from readers₀ to readers
-
-abbrev difference-μ : D.MeasureT-loop
-difference-μ numbers ends nodes behind node from first second readers₀ to₀ readers to = top - to
 
 -- an intersection begins at its first member node; or is within the others, and goes on from what those that are left come to; or
 -- has ended
@@ -234,15 +235,8 @@ module _ (t : ℕ) where
   abbrev Difference-start : Type 0
   Difference-start = D.Start (from-difference t) (difference-at t) difference.Post difference-Inv difference-μ
 
-  abbrev Difference-loop : Type 0
-  Difference-loop = D.At-loop (from-difference t) (difference-at t) difference.Post difference-Inv difference-μ
-
-  abbrev difference-start : Difference-loop → Difference-start
-  difference-start l = l .before .before .before .before
-
-  -- its two trees, of any tree that stands at the node
-  difference-trees : (a : Difference-start) (u : Tree) → Stands (length (a .args .ends .now)) (a .args .nodes .now) u (a .args .node) → Pair (a .pre .1 .0) (a .args .node) u
-  difference-trees a = pair (a .pre .1 .0) (a .args .node) (a .pre .1 .1 .1 .0)
+  abbrev Difference-known : Type 0
+  Difference-known = D.After-shared-slice-known (from-difference t) (difference-at t) difference.Post difference-Inv difference-μ
 
   first-tree : (a : Difference-start) → Standing (length (a .args .ends .now)) (a .args .nodes .now) (a .args .node + 1)
   first-tree a = first-stands (a .pre .1 .0) _ (a .pre .1 .1 .1 .0) (a .pre .1 .1 .0)
@@ -256,123 +250,232 @@ module _ (t : ℕ) where
   second-inside : (a : Difference-start) → getD (a .args .behind .now) (a .args .node + 1) 0 < 48
   second-inside a = inside (a .pre .1 .0) _ (second-tree a)
 
-  difference-loop-holds : D.Need-loop-holds (from-difference t) (difference-at t) difference.Post difference-Inv difference-μ
-  difference-loop-holds c = let a = c .before .before .before in (omega arith, a .pre .1 .1 .1 .1 .0, a .pre .1 .1 .1 .1 .1, λ u s. refl)
+  -- what the seek of the first leaves, what that of the second leaves, and what both come to
+  abbrev First : Difference-start → (e : ℕ) → Readers → (x : ℕ) → Readers → Type 0
+  First a = Leaves (a .args .numbers .now) (a .args .ends .now) (a .args .nodes .now) (a .args .node + 1)
+
+  abbrev Second : Difference-start → (e : ℕ) → Readers → (y : ℕ) → Readers → Type 0
+  Second a = Leaves (a .args .numbers .now) (a .args .ends .now) (a .args .nodes .now) (getD (a .args .behind .now) (a .args .node + 1) 0)
+
+  abbrev Both : Difference-start → (e : ℕ) → Readers → (x y : ℕ) → Readers → Type 0
+  Both a e start = Holds (a .args .numbers .now) (a .args .ends .now) (a .args .nodes .now) (a .args .node) e (λ u. seek-tree (lists-from (a .args .numbers .now) 0 (a .args .ends .now)) u (a .args .node) e (readers-of start))
+
+  module _ (k : Difference-known) (e : ℕ) (low : e ≤ top) (start : Readers) (tallied : Tallied start) (x : ℕ) (after : Readers) (f : First (k .before) e start x after) where
+    ended : (y : ℕ) → top ≤ x → y < x → Both (k .before) e start x y after
+    ended = let a = k .before in holds-ended _ _ _ _ (λ i. k .shared-slice-known .given i .fits) (a .pre .1 .0) (a .args .node) (a .pre .1 .1 .1 .0) e low start tallied x after f
+
+    answered : x < top → (y : ℕ) (last : Readers) → Second (k .before) x after y last → Both (k .before) e start x y last
+    answered = let a = k .before in holds-both _ _ _ _ (λ i. k .shared-slice-known .given i .fits) (a .pre .1 .0) (a .args .node) (a .pre .1 .1 .1 .0) e low start tallied x after f
+
+  -- ---- A3(2)(a): the first to or past E
+  abbrev First-found : Type 0
+  First-found = D.At-match-came (from-difference t) (difference-at t) difference.Post difference-Inv difference-μ
+
+  abbrev known-at : D.After-read-member (from-difference t) (difference-at t) difference.Post difference-Inv difference-μ → Difference-known
+  known-at q = q .before .before .before .before .before
+
+  abbrev start-at : D.After-read-member (from-difference t) (difference-at t) difference.Post difference-Inv difference-μ → Difference-start
+  start-at q = known-at q .before
 
   difference-read-member-requires : D.Need-read-member-requires (from-difference t) (difference-at t) difference.Post difference-Inv difference-μ
   difference-read-member-requires c κs =
-      let l = c .before .before in
-      let a = difference-start l in
-      (a .pre .1 .0 .lists, (λ k e. list-there (a .pre .1 .0) _ k e (first-tree a), l .loop .inv .1))
+      let a = c .before .before .before .before .before in
+      (a .pre .1 .0 .lists, (λ k e. list-there (a .pre .1 .0) _ k e (first-tree a), a .pre .1 .1 .1 .1 .0))
 
   difference-add-readers : D.Need-add-readers (from-difference t) (difference-at t) difference.Post difference-Inv difference-μ
   difference-add-readers c =
       let m = c .before .before in
       let q = m .before .before in
-      let l = q .before .before .before in
-      let a = difference-start l in
-      omega (arith, stepped-fits _ (a .args .node + 1) (((rw (m .member2 .given .1) at (q .read-member .ensures)) .1) .of) (first-inside a) (l .loop .inv .2))
+      let a = q .before .before .before .before .before .before in
+      omega (arith, stepped-fits _ (a .args .node + 1) (((rw (m .member2 .given .1) at (q .read-member .ensures)) .1) .of) (first-inside a) (a .pre .1 .1 .1 .1 .1))
 
   difference-seek-requires : D.Need-seek-requires (from-difference t) (difference-at t) difference.Post difference-Inv difference-μ
   difference-seek-requires c κs =
-      let l = c .before .before .before .before .before in
-      let a = difference-start l in
-      (omega (arith, a .pre .0, first-inside a), (a .pre .1 .0, (first-tree a, (l .loop .inv .1, l .loop .inv .2))))
+      let a = c .before .before .before .before .before .before .before .before in
+      (omega (arith, a .pre .0, first-inside a), (a .pre .1 .0, (first-tree a, a .pre .1 .1 .1 .1)))
 
-  -- the first has answered: what its seek leaves
-  first-step : (c : D.At-match-came (from-difference t) (difference-at t) difference.Post difference-Inv difference-μ) → let l = c .before .before .before .before in let a = difference-start l in
-      Leaves (a .args .numbers .now) (a .args .ends .now) (a .args .nodes .now) (a .args .node + 1) (l .loop .to) (l .loop .readers) (c .match .x) (c .match .readers)
+  first-step : (c : First-found) → let a = start-at (c .before) in First a (a .args .from) (a .args .start) (c .match .x) (c .match .readers)
   first-step c =
-      let l = c .before .before .before .before in
+      let a = start-at (c .before) in
+      let tallied = a .pre .1 .1 .1 .1 .1 in
       ⊎-elim
-      (λ w. rw (w .3, w .4) (still _ _ _ _ _ _ (l .loop .inv .2) _ (rw (w .1 .given .1) at (c .before .read-member .ensures))))
+      (λ w. rw (w .3, w .4) (still _ _ _ _ _ _ tallied _ (rw (w .1 .given .1) at (c .before .read-member .ensures))))
       (⊎-elim
-      (λ w. rw (w .4, w .5) (moves _ _ _ _ _ _ (l .loop .inv .2) _ (first-inside (difference-start l)) ((rw (w .1 .given .1) at (c .before .read-member .ensures)) .1)))
+      (λ w. rw (w .4, w .5) (moves _ _ _ _ _ _ tallied _ (first-inside a) ((rw (w .1 .given .1) at (c .before .read-member .ensures)) .1)))
       (λ w. rw (w .4, w .5) (w .2 .ensures)))
       (c .match .came)
 
-  difference-returns : D.Need-returns (from-difference t) (difference-at t) difference.Post difference-Inv difference-μ
-  difference-returns c =
-      let l = c .before .before .before .before .before in
-      let inv = l .loop .inv in
-      let e = first-step (c .before) in (
-        record { above = omega (arith, inv .0, e .0 .above); low = omega (arith, inv .1, e .0 .low); tallied = e .0 .tallied },
-        λ u s. let p = difference-trees (difference-start l) u s in
-            both-ended _ _ _ _ (λ i. l .before .before .before .shared-slice-known .given i .fits) _ _ u p s _ _ (inv .1) (inv .2 .many) _ _ (e .1 (p .first) (p .first-at)) (omega arith) ∙ inv .3 u s,
-      )
-
-  abbrev Second-read : Type 0
-  Second-read = D.Else1 (from-difference t) (difference-at t) difference.Post difference-Inv difference-μ
-
-  abbrev second-loop : Second-read → Difference-loop
-  second-loop c = c .before .before .before .before .before
-
+  -- ---- A3(2)(b): the second against that answer
   difference-read-member-requires-2 : D.Need-read-member-requires-2 (from-difference t) (difference-at t) difference.Post difference-Inv difference-μ
   difference-read-member-requires-2 c κs =
-      let b = c .before .before in
-      let a = difference-start (second-loop b) in
-      (a .pre .1 .0 .lists, (λ k e. list-there (a .pre .1 .0) _ k e (second-tree a), omega (arith, first-step (b .before) .0 .low, second-loop b .loop .inv .1)))
+      let f = c .before .before .before in
+      let a = start-at (f .before) in
+      (a .pre .1 .0 .lists, (λ k e. list-there (a .pre .1 .0) _ k e (second-tree a), omega (arith, first-step f .0 .low, a .pre .1 .1 .1 .1 .0)))
 
   difference-add-readers-2 : D.Need-add-readers-2 (from-difference t) (difference-at t) difference.Post difference-Inv difference-μ
   difference-add-readers-2 c =
       let m = c .before .before in
       let q = m .before .before in
-      let b = q .before .before .before in
-      let a = difference-start (second-loop b) in
-      omega (arith, stepped-fits _ (getD (a .args .behind .now) (a .args .node + 1) 0) (((rw (m .member4 .given .1) at (q .read-member2 .ensures)) .1) .of) (second-inside a) (first-step (b .before) .0 .tallied))
+      let f = q .before .before .before .before in
+      let a = start-at (f .before) in
+      omega (arith, stepped-fits _ (getD (a .args .behind .now) (a .args .node + 1) 0) (((rw (m .member4 .given .1) at (q .read-member2 .ensures)) .1) .of) (second-inside a) (first-step f .0 .tallied))
 
   difference-seek-requires-2 : D.Need-seek-requires-2 (from-difference t) (difference-at t) difference.Post difference-Inv difference-μ
   difference-seek-requires-2 c κs =
-      let b = c .before .before .before .before .before in
-      let a = difference-start (second-loop b) in
-      let e = first-step (b .before) .0 in
-      (omega (arith, a .pre .0, second-inside a, goes-on (a .pre .1 .0) _ (first-tree a)), (a .pre .1 .0, (second-tree a, (omega (arith, e .low, second-loop b .loop .inv .1), e .tallied))))
+      let f = c .before .before .before .before .before .before in
+      let a = start-at (f .before) in
+      let e = first-step f .0 in
+      (omega (arith, a .pre .0, second-inside a, goes-on (a .pre .1 .0) _ (first-tree a)), (a .pre .1 .0, (second-tree a, (omega (arith, e .low, a .pre .1 .1 .1 .1 .0), e .tallied))))
 
-  -- the second has answered, from the first's answer and what it left
-  second-step : (c : D.At-match2-came (from-difference t) (difference-at t) difference.Post difference-Inv difference-μ) → let b = c .before .before .before .before in let a = difference-start (second-loop b) in
-      Leaves (a .args .numbers .now) (a .args .ends .now) (a .args .nodes .now) (getD (a .args .behind .now) (a .args .node + 1) 0) (b .before .match .x) (b .before .match .readers) (c .match2 .y) (c .match2 .readers)
-  second-step c =
-      let b = c .before .before .before .before in
-      let held = first-step (b .before) .0 .tallied in
+  -- what A3(2)(a) and (b) come to
+  both-steps : (c : D.Joined1 (from-difference t) (difference-at t) difference.Post difference-Inv difference-μ) → let a = start-at (c .before .before) in Both a (a .args .from) (a .args .start) (c .before .match .x) (c .if1 .y) (c .if1 .readers)
+  both-steps c =
+      let f = c .before in
+      let a = start-at (f .before) in
+      let e = first-step f in
+      let low = a .pre .1 .1 .1 .1 .0 in
+      let tallied = a .pre .1 .1 .1 .1 .1 in
       ⊎-elim
-      (λ w. rw (w .3, w .4) (still _ _ _ _ _ _ held _ (rw (w .1 .given .1) at (c .before .read-member2 .ensures))))
+      (λ w. rw (w .7, w .8) (answered (known-at (f .before)) _ low _ tallied _ _ e (omega (arith, e .0 .low, w .0 .taken)) _ _ (still _ _ _ _ _ _ (e .0 .tallied) _ (rw (w .5 .given .1) at (w .3 .ensures)))))
       (⊎-elim
-      (λ w. rw (w .4, w .5) (moves _ _ _ _ _ _ held _ (second-inside (difference-start (second-loop b))) ((rw (w .1 .given .1) at (c .before .read-member2 .ensures)) .1)))
+      (λ w. rw (w .8, w .9) (answered (known-at (f .before)) _ low _ tallied _ _ e (omega (arith, e .0 .low, w .0 .taken)) _ _ (moves _ _ _ _ _ _ (e .0 .tallied) _ (second-inside a) ((rw (w .5 .given .1) at (w .3 .ensures)) .1))))
+      (⊎-elim
+      (λ w. rw (w .8, w .9) (answered (known-at (f .before)) _ low _ tallied _ _ e (omega (arith, e .0 .low, w .0 .taken)) _ _ (w .6 .ensures)))
+      (λ w. rw (w .1, w .2) (ended (known-at (f .before)) _ low _ tallied _ _ e _ (omega (arith, w .0 .left)) (omega (arith, w .0 .left))))))
+      (c .if1 .came)
+
+  -- ---- the increment, A2(2)
+  difference-loop-holds : D.Need-loop-holds (from-difference t) (difference-at t) difference.Post difference-Inv difference-μ
+  difference-loop-holds c = let h = both-steps c in record { above = omega arith; low = h .low; not-finished = h .not-finished; tallied = h .tallied; goes-on = λ u s. refl }
+
+  abbrev Increment : Type 0
+  Increment = D.In-loop (from-difference t) (difference-at t) difference.Post difference-Inv difference-μ
+
+  abbrev loop-start : Increment → Difference-start
+  loop-start i = start-at (i .before .before .before .before)
+
+  equal : (i : Increment) → i .before .loop .y ≡ i .before .loop .x
+  equal i = omega (arith, i .loop-test .taken)
+
+  past-low : (i : Increment) → i .before .loop .x + 1 ≤ top
+  past-low i = let lt = i .before .loop .inv .not-finished (equal i) in omega (arith, lt)
+
+  -- ---- A2(2)(a): the first past its answer
+  difference-read-member-requires-3 : D.Need-read-member-requires-3 (from-difference t) (difference-at t) difference.Post difference-Inv difference-μ
+  difference-read-member-requires-3 c κs =
+      let i = c .before .before .before in
+      let a = loop-start i in
+      (a .pre .1 .0 .lists, (λ k e. list-there (a .pre .1 .0) _ k e (first-tree a), omega (arith, past-low i)))
+
+  difference-add-readers-3 : D.Need-add-readers-3 (from-difference t) (difference-at t) difference.Post difference-Inv difference-μ
+  difference-add-readers-3 c =
+      let m = c .before .before in
+      let q = m .before .before in
+      let i = q .before .before .before .before in
+      let a = loop-start i in
+      omega (arith, stepped-fits _ (a .args .node + 1) (((rw (m .member6 .given .1) at (q .read-member3 .ensures)) .1) .of) (first-inside a) (i .before .loop .inv .tallied))
+
+  difference-seek-requires-3 : D.Need-seek-requires-3 (from-difference t) (difference-at t) difference.Post difference-Inv difference-μ
+  difference-seek-requires-3 c κs =
+      let i = c .before .before .before .before .before .before in
+      let a = loop-start i in
+      (omega (arith, a .pre .0, first-inside a), (a .pre .1 .0, (first-tree a, (omega (arith, past-low i), i .before .loop .inv .tallied))))
+
+  abbrev Next-found : Type 0
+  Next-found = D.At-match3-came (from-difference t) (difference-at t) difference.Post difference-Inv difference-μ
+
+  abbrev increment-at : D.After-read-member3 (from-difference t) (difference-at t) difference.Post difference-Inv difference-μ → Increment
+  increment-at q = q .before .before .before .before
+
+  next-step : (c : Next-found) → let i = increment-at (c .before) in First (loop-start i) (i .before .loop .x + 1) (i .before .loop .readers) (c .match3 .next) (c .match3 .readers)
+  next-step c =
+      let i = increment-at (c .before) in
+      let tallied = i .before .loop .inv .tallied in
+      ⊎-elim
+      (λ w. rw (w .3, w .4) (still _ _ _ _ _ _ tallied _ (rw (w .1 .given .1) at (c .before .read-member3 .ensures))))
+      (⊎-elim
+      (λ w. rw (w .4, w .5) (moves _ _ _ _ _ _ tallied _ (first-inside (loop-start i)) ((rw (w .1 .given .1) at (c .before .read-member3 .ensures)) .1)))
       (λ w. rw (w .4, w .5) (w .2 .ensures)))
-      (c .match2 .came)
+      (c .match3 .came)
 
-  difference-returns-2 : D.Need-returns-2 (from-difference t) (difference-at t) difference.Post difference-Inv difference-μ
-  difference-returns-2 c =
-      let b = c .before .before .before .before .before in
-      let l = second-loop b in
-      let inv = l .loop .inv in
-      let e = first-step (b .before) in
-      let e₂ = second-step (c .before) in
-      let low = lt-of-le-ne (e .0 .low) (b .if1 .left) in (
-        record { above = omega (arith, inv .0, e .0 .above); low = omega (arith, inv .1, e .0 .low); tallied = e₂ .0 .tallied },
-        λ u s. let p = difference-trees (difference-start l) u s in
-            both-stopped _ _ _ _ (λ i. l .before .before .before .shared-slice-known .given i .fits) _ _ u p s _ _ (inv .1) (inv .2 .many) _ _ (e .1 (p .first) (p .first-at)) low _ _ (e₂ .1 (p .second) (p .second-at)) (c .if2 .taken) ∙ inv .3 u s,
-      )
+  -- ---- A2(2)(b): the second against that
+  difference-read-member-requires-4 : D.Need-read-member-requires-4 (from-difference t) (difference-at t) difference.Post difference-Inv difference-μ
+  difference-read-member-requires-4 c κs =
+      let f = c .before .before .before in
+      let i = increment-at (f .before) in
+      let a = loop-start i in
+      (a .pre .1 .0 .lists, (λ k e. list-there (a .pre .1 .0) _ k e (second-tree a), omega (arith, next-step f .0 .low, past-low i)))
 
-  difference-loop-less : D.Need-loop-less (from-difference t) (difference-at t) difference.Post difference-Inv difference-μ
-  difference-loop-less c =
-      let b = c .before .before .before .before .before .before in
-      let e = first-step (b .before) .0 in
-      omega (arith, e .above, lt-of-le-ne (e .low) (b .if1 .left))
+  difference-add-readers-4 : D.Need-add-readers-4 (from-difference t) (difference-at t) difference.Post difference-Inv difference-μ
+  difference-add-readers-4 c =
+      let m = c .before .before in
+      let q = m .before .before in
+      let f = q .before .before .before .before in
+      let a = loop-start (increment-at (f .before)) in
+      omega (arith, stepped-fits _ (getD (a .args .behind .now) (a .args .node + 1) 0) (((rw (m .member8 .given .1) at (q .read-member4 .ensures)) .1) .of) (second-inside a) (next-step f .0 .tallied))
+
+  difference-seek-requires-4 : D.Need-seek-requires-4 (from-difference t) (difference-at t) difference.Post difference-Inv difference-μ
+  difference-seek-requires-4 c κs =
+      let f = c .before .before .before .before .before .before in
+      let i = increment-at (f .before) in
+      let a = loop-start i in
+      let e = next-step f .0 in
+      (omega (arith, a .pre .0, second-inside a, goes-on (a .pre .1 .0) _ (first-tree a)), (a .pre .1 .0, (second-tree a, (omega (arith, e .low, past-low i), e .tallied))))
+
+  module _ (c : Next-found) where
+    abbrev here : Increment
+    here = increment-at (c .before)
+
+    next-answered : c .match3 .next < top → (y : ℕ) (last : Readers) → Second (loop-start here) (c .match3 .next) (c .match3 .readers) y last
+        → Both (loop-start here) (here .before .loop .x + 1) (here .before .loop .readers) (c .match3 .next) y last
+    next-answered = answered (known-at (here .before .before .before .before)) _ (past-low here) _ (here .before .loop .inv .tallied) _ _ (next-step c)
+
+    -- so it goes on from there, at a higher number; what is kept does not speak of `first`, `second` and `place`
+    increments : (y : ℕ) (last : Readers) → Both (loop-start here) (here .before .loop .x + 1) (here .before .loop .readers) (c .match3 .next) y last
+        → let a = loop-start here .args in let e = here .before .before in
+        difference-Inv (a .numbers .now) (a .ends .now) (a .nodes .now) (a .behind .now) (a .node) (a .from) 0 0 (e .if1 .readers) 0 (e .before .match .x) (e .if1 .y) last (c .match3 .next) y
+    increments y last h =
+        let inv = here .before .loop .inv in
+        record { above = omega (arith, inv .above, h .above); low = h .low; not-finished = h .not-finished; tallied = h .tallied; goes-on = λ u s. h .goes-on u s ∙ sym (holding-turn _ _ _ _ (equal here)) ∙ inv .goes-on u s }
+
+    difference-less : top - c .match3 .next < top - here .before .loop .x
+    difference-less = omega (arith, next-step c .0 .above, past-low here)
 
   difference-loop-again : D.Need-loop-again (from-difference t) (difference-at t) difference.Post difference-Inv difference-μ
   difference-loop-again c =
-      let b = c .before .before .before .before .before .before in
-      let l = second-loop b in
-      let inv = l .loop .inv in
-      let e = first-step (b .before) in
-      let e₂ = second-step (c .before .before) in
-      let low = lt-of-le-ne (e .0 .low) (b .if1 .left) in (
-        omega (arith, inv .0, e .0 .above),
-        omega (arith, low),
-        e₂ .0 .tallied,
-        λ u s. let p = difference-trees (difference-start l) u s in
-            both-turned _ _ _ _ (λ i. l .before .before .before .shared-slice-known .given i .fits) _ _ u p s _ _ (inv .1) (inv .2 .many) _ _ (e .1 (p .first) (p .first-at)) low _ _ (e₂ .1 (p .second) (p .second-at)) (c .before .if2 .left) ∙ inv .3 u s,
+      let m = c .before in
+      let q = m .before .before in
+      let b = q .before .before .before in
+      let f = b .before in
+      increments f _ _ (next-answered f (omega (arith, next-step f .0 .low, b .if2 .taken)) _ _ (still _ _ _ _ _ _ (next-step f .0 .tallied) _ (rw (m .member7 .given .1) at (q .read-member4 .ensures))))
+
+  difference-loop-again-2 : D.Need-loop-again-2 (from-difference t) (difference-at t) difference.Post difference-Inv difference-μ
+  difference-loop-again-2 c =
+      let m = c .before .before in
+      let q = m .before .before in
+      let b = q .before .before .before in
+      let f = b .before in
+      increments f _ _ (next-answered f (omega (arith, next-step f .0 .low, b .if2 .taken)) _ _ (moves _ _ _ _ _ _ (next-step f .0 .tallied) _ (second-inside (loop-start (here f))) ((rw (m .member8 .given .1) at (q .read-member4 .ensures)) .1)))
+
+  difference-loop-again-3 : D.Need-loop-again-3 (from-difference t) (difference-at t) difference.Post difference-Inv difference-μ
+  difference-loop-again-3 c =
+      let b = c .before .before .before .before .before .before .before in
+      let f = b .before in
+      increments f _ _ (next-answered f (omega (arith, next-step f .0 .low, b .if2 .taken)) _ _ (c .before .seek4 .ensures))
+
+  difference-loop-again-4 : D.Need-loop-again-4 (from-difference t) (difference-at t) difference.Post difference-Inv difference-μ
+  difference-loop-again-4 c =
+      let f = c .before in
+      let i = here f in
+      let low = past-low i in
+      increments f _ _ (ended (known-at (i .before .before .before .before)) _ low _ (i .before .loop .inv .tallied) _ _ (next-step f) _ (omega (arith, c .if2 .left)) (omega (arith, c .if2 .left, equal i, low)))
+
+  difference-returns : D.Need-returns (from-difference t) (difference-at t) difference.Post difference-Inv difference-μ
+  difference-returns c =
+      let h = both-steps (c .before .before) in
+      let inv = c .before .loop .inv in (
+        record { above = omega (arith, h .above, inv .above); low = inv .low; tallied = inv .tallied },
+        λ u s. sym (holding-stop _ _ _ _ (λ same. omega (arith, same, c .loop-test .left))) ∙ inv .goes-on u s ∙ h .goes-on u s,
       )
 
 -- ---- an intersection
@@ -697,34 +800,61 @@ pub +seek+seek-difference+seek-intersection+seek-union-spec : {M : Type 1} → s
     (λ c. omega (arith, first-inside t (c .before .before)))
     (λ c. omega (arith, first-inside t (c .before .before)))
     (λ c. first-inside t (c .before .before))
-    (difference-loop-holds t)
-    (λ c. omega (arith, first-inside t (difference-start t c)))
-    (λ c. first-inside t (difference-start t c))
-    (λ c. first-inside t (difference-start t (c .before)))
+    (λ c. omega (arith, first-inside t (c .before .before .before)))
+    (λ c. first-inside t (c .before .before .before))
+    (λ c. first-inside t (c .before .before .before .before))
     (difference-read-member-requires t)
     (λ c. search needs)
     (λ c. search needs)
-    (λ c. omega (arith, first-inside t (difference-start t (c .before .before .before .before .before .before))))
-    (λ c. first-inside t (difference-start t (c .before .before .before .before .before .before)))
+    (λ c. omega (arith, first-inside t (c .before .before .before .before .before .before .before .before .before)))
+    (λ c. first-inside t (c .before .before .before .before .before .before .before .before .before))
     (difference-add-readers t)
     (λ c. search needs)
     (difference-seek-requires t)
-    (λ c. omega (arith, second-inside t (difference-start t (second-loop t c))))
-    (λ c. second-inside t (difference-start t (second-loop t c)))
-    (λ c. second-inside t (difference-start t (second-loop t (c .before))))
+    (λ c. omega (arith, second-inside t (start-at t (c .before .before))))
+    (λ c. second-inside t (start-at t (c .before .before)))
+    (λ c. second-inside t (start-at t (c .before .before .before)))
     (difference-read-member-requires-2 t)
     (λ c. search needs)
     (λ c. search needs)
-    (λ c. omega (arith, second-inside t (difference-start t (second-loop t (c .before .before .before .before .before .before)))))
-    (λ c. second-inside t (difference-start t (second-loop t (c .before .before .before .before .before .before))))
+    (λ c. omega (arith, second-inside t (start-at t (c .before .before .before .before .before .before .before .before))))
+    (λ c. second-inside t (start-at t (c .before .before .before .before .before .before .before .before)))
     (difference-add-readers-2 t)
     (λ c. search needs)
     (difference-seek-requires-2 t)
-    (λ c. omega (arith, first-step t (c .before .before .before .before .before .before .before) .0 .low))
-    (difference-loop-less t)
+    (difference-loop-holds t)
+    (λ c. omega (arith, past-low t (c .before)))
+    (λ c. omega (arith, first-inside t (loop-start t (c .before))))
+    (λ c. first-inside t (loop-start t (c .before)))
+    (λ c. first-inside t (loop-start t (c .before .before)))
+    (difference-read-member-requires-3 t)
+    (λ c. search needs)
+    (λ c. search needs)
+    (λ c. omega (arith, first-inside t (loop-start t (c .before .before .before .before .before .before .before))))
+    (λ c. first-inside t (loop-start t (c .before .before .before .before .before .before .before)))
+    (difference-add-readers-3 t)
+    (λ c. search needs)
+    (difference-seek-requires-3 t)
+    (λ c. omega (arith, second-inside t (loop-start t (increment-at t (c .before .before)))))
+    (λ c. second-inside t (loop-start t (increment-at t (c .before .before))))
+    (λ c. second-inside t (loop-start t (increment-at t (c .before .before .before))))
+    (difference-read-member-requires-4 t)
+    (λ c. search needs)
+    (λ c. search needs)
+    (λ c. omega (arith, second-inside t (loop-start t (increment-at t (c .before .before .before .before .before .before .before .before)))))
+    (λ c. second-inside t (loop-start t (increment-at t (c .before .before .before .before .before .before .before .before))))
+    (difference-add-readers-4 t)
+    (λ c. search needs)
+    (difference-seek-requires-4 t)
+    (λ c. difference-less t (c .before .before .before .before .before .before .before))
     (difference-loop-again t)
-    (difference-returns t)
-    (difference-returns-2 t))
+    (λ c. difference-less t (c .before .before .before .before .before .before .before .before))
+    (difference-loop-again-2 t)
+    (λ c. difference-less t (c .before .before .before .before .before .before .before .before))
+    (difference-loop-again-3 t)
+    (λ c. difference-less t (c .before))
+    (difference-loop-again-4 t)
+    (difference-returns t))
     (λ t. I.spec (from-intersection t) (intersection-at t) intersection.Post intersection-Inv intersection-μ
     (λ c. let a = c .before .before in omega (arith, inside (a .pre .1 .0) _ (a .pre .1 .1 .0)))
     (intersection-loop-holds t)
