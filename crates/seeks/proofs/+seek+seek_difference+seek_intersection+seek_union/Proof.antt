@@ -327,21 +327,23 @@ module _ (t : ℕ) where
       let e = first-step f .0 in
       (omega (arith, a .pre .0, second-inside a, goes-on (a .pre .1 .0) _ (first-tree a)), (a .pre .1 .0, (second-tree a, (omega (arith, e .low, a .pre .1 .1 .1 .1 .0), e .tallied))))
 
+  first-answered : (c : First-found) → c .match .x < top → (y : ℕ) (last : Readers) → let a = start-at (c .before) in Second a (c .match .x) (c .match .readers) y last
+      → Both a (a .args .from) (a .args .start) (c .match .x) y last
+  first-answered c = let a = start-at (c .before) in answered (known-at (c .before)) _ (a .pre .1 .1 .1 .1 .0) _ (a .pre .1 .1 .1 .1 .1) _ _ (first-step c)
+
   -- what A3(2)(a) and (b) come to
   both-steps : (c : D.Joined1 (from-difference t) (difference-at t) difference.Post difference-Inv difference-μ) → let a = start-at (c .before .before) in Both a (a .args .from) (a .args .start) (c .before .match .x) (c .if1 .y) (c .if1 .readers)
   both-steps c =
       let f = c .before in
       let a = start-at (f .before) in
       let e = first-step f in
-      let low = a .pre .1 .1 .1 .1 .0 in
-      let tallied = a .pre .1 .1 .1 .1 .1 in
       ⊎-elim
-      (λ w. rw (w .7, w .8) (answered (known-at (f .before)) _ low _ tallied _ _ e (omega (arith, e .0 .low, w .0 .taken)) _ _ (still _ _ _ _ _ _ (e .0 .tallied) _ (rw (w .5 .given .1) at (w .3 .ensures)))))
+      (λ w. rw (w .7, w .8) (first-answered f (omega (arith, e .0 .low, w .0 .taken)) _ _ (still _ _ _ _ _ _ (e .0 .tallied) _ (rw (w .5 .given .1) at (w .3 .ensures)))))
       (⊎-elim
-      (λ w. rw (w .8, w .9) (answered (known-at (f .before)) _ low _ tallied _ _ e (omega (arith, e .0 .low, w .0 .taken)) _ _ (moves _ _ _ _ _ _ (e .0 .tallied) _ (second-inside a) ((rw (w .5 .given .1) at (w .3 .ensures)) .1))))
+      (λ w. rw (w .8, w .9) (first-answered f (omega (arith, e .0 .low, w .0 .taken)) _ _ (moves _ _ _ _ _ _ (e .0 .tallied) _ (second-inside a) ((rw (w .5 .given .1) at (w .3 .ensures)) .1))))
       (⊎-elim
-      (λ w. rw (w .8, w .9) (answered (known-at (f .before)) _ low _ tallied _ _ e (omega (arith, e .0 .low, w .0 .taken)) _ _ (w .6 .ensures)))
-      (λ w. rw (w .1, w .2) (ended (known-at (f .before)) _ low _ tallied _ _ e _ (omega (arith, w .0 .left)) (omega (arith, w .0 .left))))))
+      (λ w. rw (w .8, w .9) (first-answered f (omega (arith, e .0 .low, w .0 .taken)) _ _ (w .6 .ensures)))
+      (λ w. rw (w .1, w .2) (ended (known-at (f .before)) _ (a .pre .1 .1 .1 .1 .0) _ (a .pre .1 .1 .1 .1 .1) _ _ e _ (omega (arith, w .0 .left)) (omega (arith, w .0 .left))))))
       (c .if1 .came)
 
   -- ---- the increment, A2(2)
