@@ -13,6 +13,7 @@
 #include <inttypes.h>
 #include <stdint.h>
 #include <stdio.h>
+#include <stdlib.h>
 
 #include "zwailmoor.h"
 
@@ -29,12 +30,17 @@ struct question {
     uint32_t word;
 };
 
+/* Rows that are reserved before the first page, of as many places as there can be members, and one. */
+struct reserved {
+    size_t places;
+    uint64_t *replies; /* Of all pages: the last place is for finished. */
+    uint32_t *members; /* What is shown: the last place is for a member that comes by a change. */
+};
+
 /* One place more than an input may have, so that a longer one is seen. */
 static uint8_t input[INPUT + 1];
 static uint32_t numbers[NUMBERS];
 static uint32_t ends[ZWAILMOOR_LISTS];
-/* What is shown: each member is one of the numbers. */
-static uint32_t members[NUMBERS];
 
 #define REFUSAL(name, sentence) {ZWAILMOOR_##name, "ZWAILMOOR_" #name, sentence}
 
@@ -148,29 +154,54 @@ static int read_expression(const struct question *asked)
     return 0;
 }
 
-/* Every page is a run of its own: all that is kept from one to the next is the bookmark. What is shown stays in `members`. */
-static int print_members(const struct question *asked, size_t *shown)
+/* Memory for everything that can be drawn: how much is known from the lists' ends and the expression alone. */
+static int reserve(const struct question *asked, struct reserved *rows)
+{
+    zwailmoor_bounds_result most = zwailmoor_bounds(ends, asked->lists, asked->packed, asked->packed_length);
+
+    if (most.number != ZWAILMOOR_ACCEPTED)
+        return refused("the expression", most.number);
+    rows->places = (size_t)most.members + 1;
+    rows->replies = malloc(rows->places * sizeof *rows->replies);
+    rows->members = malloc(rows->places * sizeof *rows->members);
+    if (rows->replies == NULL || rows->members == NULL) {
+        (void)fprintf(stderr, "There is no memory for %zu replies.\n", rows->places);
+        return 1;
+    }
+    printf("at most members %" PRIu32 ", moves %" PRIu32 "; reserved replies %zu\n", most.members, most.moves, rows->places);
+    return 0;
+}
+
+/*
+ * Every page is a run of its own: all that is kept from one to the next is the bookmark. Its replies go behind the members of the
+ * page before, and where fewer places than a page are left, the last of them is for finished.
+ */
+static int print_members(const struct question *asked, const struct reserved *rows, size_t *shown)
 {
     static const uint8_t codes[PAGE] = {ZWAILMOOR_NEXT};
     static const uint32_t arguments[PAGE] = {0};
     uint64_t bookmark = ZWAILMOOR_FIRST_BOOKMARK;
-    uint64_t replies[PAGE] = {0};
     size_t page, i;
+    int finished = 0;
 
-    for (page = 1; replies[PAGE - 1] != ZWAILMOOR_FINISHED; page++) {
+    for (page = 1; !finished; page++) {
+        uint64_t *replies = rows->replies + *shown;
+        size_t left = rows->places - *shown;
+        size_t calls = left < PAGE ? left : PAGE;
         zwailmoor_run_result result =
             zwailmoor_run(numbers, asked->count, ends, asked->lists, asked->word, asked->packed, asked->packed_length, bookmark,
-                          codes, PAGE, arguments, PAGE, replies, PAGE);
+                          codes, calls, arguments, calls, replies, calls);
 
         if (result.number != ZWAILMOOR_ACCEPTED)
             return refused("the run", result.number);
         printf("page %zu from bookmark %" PRIu64 ":", page, bookmark);
-        for (i = 0; i < PAGE && replies[i] != ZWAILMOOR_FINISHED; i++) {
-            members[(*shown)++] = (uint32_t)replies[i];
+        for (i = 0; i < calls && replies[i] != ZWAILMOOR_FINISHED; i++) {
+            rows->members[(*shown)++] = (uint32_t)replies[i];
             printf(" %" PRIu64, replies[i]);
         }
         bookmark = result.bookmark;
-        printf("%s; go on from bookmark %" PRIu64 "\n", i < PAGE ? " finished" : "", bookmark);
+        finished = i < PAGE;
+        printf("%s; go on from bookmark %" PRIu64 "\n", finished ? " finished" : "", bookmark);
     }
     printf("members %zu\n", *shown);
     return 0;
@@ -191,17 +222,17 @@ static int read_number(const char *text, uintmax_t most, uintmax_t *number)
 }
 
 /* One number more in a list: nothing is drawn again to show the members. */
-static int add_number(const struct question *asked, uintmax_t list, uintmax_t number, size_t shown)
+static int add_number(const struct question *asked, const struct reserved *rows, uintmax_t list, uintmax_t number, size_t shown)
 {
     uint32_t result = zwailmoor_update(numbers, NUMBERS, ends, asked->lists, asked->word, asked->packed, asked->packed_length,
-                                       (size_t)list, (uint32_t)number, 1, members, NUMBERS, &shown);
+                                       (size_t)list, (uint32_t)number, 1, rows->members, rows->places, &shown);
     size_t i;
 
     if (result != ZWAILMOOR_ACCEPTED)
         return refused("the change", result);
     printf("%" PRIuMAX " added to list %" PRIuMAX "; members %zu:", number, list, shown);
     for (i = 0; i < shown; i++)
-        printf(" %" PRIu32, members[i]);
+        printf(" %" PRIu32, rows->members[i]);
     printf("\n");
     return 0;
 }
@@ -210,6 +241,7 @@ int main(int argc, char **argv)
 {
     const char *path = argc > 1 ? argv[1] : "samples/console";
     struct question asked = {NULL, 0, 0, 0, 0};
+    struct reserved rows = {0, NULL, NULL};
     size_t length = 0, shown = 0;
     uintmax_t list = 0, number = 0;
     int failed;
@@ -225,9 +257,13 @@ int main(int argc, char **argv)
     print_lists(&asked);
     failed = read_expression(&asked);
     if (failed == 0)
-        failed = print_members(&asked, &shown);
+        failed = reserve(&asked, &rows);
+    if (failed == 0)
+        failed = print_members(&asked, &rows, &shown);
     if (failed == 0 && argc == 4)
-        failed = add_number(&asked, list, number, shown);
+        failed = add_number(&asked, &rows, list, number, shown);
+    free(rows.replies);
+    free(rows.members);
     /* A print that failed is remembered by the stream, so one look at the end is enough. */
     if (fflush(stdout) != 0 || ferror(stdout)) {
         (void)fprintf(stderr, "The members could not all be printed.\n");

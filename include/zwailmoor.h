@@ -125,6 +125,14 @@ typedef struct zwailmoor_run_result {
     uint64_t bookmark;
 } zwailmoor_run_result;
 
+/* How large it can get: the most members, the most moves of a run, and the most bytes of a delivery. */
+typedef struct zwailmoor_bounds_result {
+    uint32_t number;
+    uint32_t members;
+    uint32_t moves;
+    size_t bytes;
+} zwailmoor_bounds_result;
+
 /*
  * Reads a packed expression over so many lists, of which the word says which were delivered, and writes its row form: one byte a
  * node, `count` of them. 48 places are always enough.
@@ -179,6 +187,24 @@ zwailmoor_write_result zwailmoor_downgrade_delivery(const uint8_t *delivery, siz
  */
 zwailmoor_span zwailmoor_list_span(const uint32_t *numbers, size_t numbers_length, const uint32_t *ends, size_t ends_length,
                                    uint32_t word, size_t list);
+
+/*
+ * How large it can get, from the lists' ends and the packed expression alone: no number is read, so none need be there yet, and
+ * every list counts as delivered.
+ *   - `members`: a list has as many as it is long, a union at most the sum of its nodes', an intersection the least of them, a
+ *     difference its first node's. For a single list it is exact.
+ *   - `moves`: the lengths of the leaves' lists added up, a list once for each leaf it stands at. No run makes more.
+ *   - `bytes`: the most that a delivery of lists with these ends can fill, whether the expression names them or not. They are all
+ *     filled where every list was delivered, and each of two numbers or more needs the width of 32.
+ * To reserve by it: `members` + 1 replies, and as many codes and arguments, are enough for a run of next calls to draw everything
+ * from any bookmark and end with finished. `bytes` bytes are never too few for zwailmoor_encode_delivery: 6 cannot come. To read
+ * such a delivery back takes as many ends as there are lists, and as many numbers as the last end says. None of the three
+ * overflows: `members` and `moves` are at most 3,145,680, and `bytes` at most 8,388,569.
+ * Refusals: 7; 10 if an end falls or a list has more than 65,535 numbers (there is no row that an end could pass); of the
+ * expression as in zwailmoor_unpack_expression 1 to 5, and never 18.
+ * Its work is proportional to the lists and the nodes, however many numbers there are.
+ */
+zwailmoor_bounds_result zwailmoor_bounds(const uint32_t *ends, size_t ends_length, const uint8_t *packed, size_t packed_length);
 
 /*
  * A run: puts the calls codes[i] with arguments[i] one after the other to the set that the packed expression denotes over the

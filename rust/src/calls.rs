@@ -37,6 +37,20 @@ pub struct RunResult {
     pub bookmark: u64,
 }
 
+/// How large it can get; from [`bounds`].
+///
+/// More fields may come, so outside this package it is taken apart with `..`.
+#[derive(Debug, Clone, Copy, PartialEq, Eq)]
+#[non_exhaustive]
+pub struct Bounds {
+    /// The most members that the expression can have.
+    pub members: u32,
+    /// The most moves that a run can make.
+    pub moves: u32,
+    /// The most bytes that a delivery of the lists can fill.
+    pub bytes: usize,
+}
+
 /// What [`update`] does to a list. There is nothing else to do to it, so a match needs no wildcard arm.
 #[derive(Debug, Clone, Copy, PartialEq, Eq, Hash)]
 pub enum Change {
@@ -157,6 +171,55 @@ pub fn downgrade_delivery(delivery: &[u8], old: &mut [u8]) -> Result<usize, Refu
 pub fn list_part<'a>(numbers: &'a [u32], ends: &[u32], word: u32, list: usize) -> &'a [u32] {
     let span = ffi::list_span(numbers, ends, word, list);
     &numbers[span.start..][..span.size]
+}
+
+/// How large it can get, from the ends of the lists and the packed expression alone: no number is read, so none need be there yet,
+/// and every list counts as delivered.
+///
+/// - `members`: a list has as many as it is long, a union at most the sum of its nodes', an intersection the least of them, a
+///   difference its first node's. For a single list it is exact.
+/// - `moves`: the lengths of the leaves' lists added up, a list once for each leaf it stands at. No run makes more.
+/// - `bytes`: the most that a delivery of lists with these ends can fill, whether the expression names them or not. They are all
+///   filled where every list was delivered, and each of two numbers or more needs the width of 32.
+///
+/// To reserve by it: `members + 1` replies, and as many codes and arguments, are enough for a [`run`] of next calls to draw
+/// everything from any bookmark and end with finished. `bytes` bytes are never too few for [`encode_delivery`]: 6 cannot come. To read
+/// such a delivery back takes as many ends as there are lists, and as many numbers as the last end says. None of the three overflows:
+/// `members` and `moves` are at most 3,145,680, and `bytes` at most 8,388,569. Its work is proportional to the lists and the nodes.
+///
+/// ```
+/// use zwailmoor::{bounds, encode_delivery, run, Call, Reply, ALL_DELIVERED};
+///
+/// // team, partners, held, withdrawn; "(team or partners) and held, but not withdrawn"
+/// let numbers = [101, 104, 107, 110, 102, 104, 108, 101, 102, 104, 107, 108, 104, 107];
+/// let ends = [4, 7, 12, 14];
+/// let packed = [0x73, 0x10, 0x00, 0x41, 0x03];
+///
+/// let most = bounds(&ends, &packed)?;
+/// assert_eq!((most.members, most.moves, most.bytes), (5, 14, 68));
+///
+/// let calls = most.members as usize + 1;
+/// let (codes, arguments, mut replies) = (vec![Call::Next.code(); calls], vec![0; calls], vec![0; calls]);
+/// let result = run(&numbers, &ends, ALL_DELIVERED, &packed, 0, &codes, &arguments, &mut replies)?;
+/// assert_eq!(Reply::from_row(replies[calls - 1]), Some(Reply::Finished));
+/// assert!(result.moves <= most.moves);
+///
+/// let mut delivery = vec![0; most.bytes];
+/// assert_eq!(encode_delivery(&numbers, &ends, ALL_DELIVERED, &mut delivery)?, 31);
+/// # Ok::<(), zwailmoor::Refusal>(())
+/// ```
+///
+/// # Errors
+/// 7; 10 if an end falls or a list has more than 65,535 numbers (there is no row that an end could pass); of the expression 1 to 5
+/// as in [`unpack_expression`], and never 18.
+pub fn bounds(ends: &[u32], packed: &[u8]) -> Result<Bounds, Refusal> {
+    let ffi::BoundsResult {
+        number,
+        members,
+        moves,
+        bytes,
+    } = ffi::bounds(ends, packed);
+    Refusal::test(number).map(|()| Bounds { members, moves, bytes })
 }
 
 /// Puts calls, each a code and an argument ([`Call`](crate::Call)), to the set that the expression denotes over the lists, and

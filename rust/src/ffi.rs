@@ -1,4 +1,4 @@
-//! The engine's nine C calls, and the only `unsafe` of this package.
+//! The engine's ten C calls, and the only `unsafe` of this package.
 //!
 //! Each function here lends slices for one call. What the engine asks of its caller (`include/zwailmoor.h`) a slice is by its
 //! type: its pointer is aligned and never null, also where it is empty; it has as many elements as it says; and a `&mut` slice
@@ -40,6 +40,16 @@ pub struct RunResult {
     pub moves: u32,
     pub places: [u16; 48],
     pub bookmark: u64,
+}
+
+/// How large it can get.
+#[repr(C)]
+#[derive(Debug, Clone, Copy, PartialEq, Eq)]
+pub struct BoundsResult {
+    pub number: u32,
+    pub members: u32,
+    pub moves: u32,
+    pub bytes: usize,
 }
 
 extern "C" {
@@ -86,6 +96,7 @@ extern "C" {
         word: u32,
         list: usize,
     ) -> Span;
+    fn zwailmoor_bounds(ends: *const u32, ends_length: usize, packed: *const u8, packed_length: usize) -> BoundsResult;
     fn zwailmoor_run(
         numbers: *const u32,
         numbers_length: usize,
@@ -171,6 +182,11 @@ pub fn downgrade_delivery(delivery: &[u8], old: &mut [u8]) -> WriteResult {
 pub fn list_span(numbers: &[u32], ends: &[u32], word: u32, list: usize) -> Span {
     // SAFETY: both pairs are slices, and nothing is written.
     unsafe { zwailmoor_list_span(numbers.as_ptr(), numbers.len(), ends.as_ptr(), ends.len(), word, list) }
+}
+
+pub fn bounds(ends: &[u32], packed: &[u8]) -> BoundsResult {
+    // SAFETY: both pairs are slices, and nothing is written.
+    unsafe { zwailmoor_bounds(ends.as_ptr(), ends.len(), packed.as_ptr(), packed.len()) }
 }
 
 // As many arguments as in C.

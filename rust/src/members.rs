@@ -2,7 +2,7 @@
 
 use std::iter::FusedIterator;
 
-use crate::{run, Call, Refusal, Reply};
+use crate::{bounds, run, Call, Refusal, Reply};
 
 /// The members of an expression from a bookmark on, ascending, each exactly once; made by [`members`].
 ///
@@ -25,8 +25,9 @@ pub struct Members<'a> {
 
 /// The members of a packed expression over the lists, from a bookmark on (0: from the first), `page` of them in a run.
 ///
-/// The first page is drawn at once. A page of 0 is taken as 1, and a page longer than the numbers, which hold all members, as one
-/// longer by 1: so a page never needs more room than the numbers do.
+/// The first page is drawn at once. A page of 0 is taken as 1, and one longer than it takes to draw everything as that: the most
+/// members that [`bounds`] says, or all numbers if they are fewer (a union of one list with itself counts it twice); and 1 for
+/// finished.
 ///
 /// # Errors
 /// 7, 10, 11; of the expression 1 to 5 and 18; 12. The iterator itself refuses nothing, since what it has borrowed cannot change.
@@ -38,7 +39,9 @@ pub fn members<'a>(
     bookmark: u64,
     page: usize,
 ) -> Result<Members<'a>, Refusal> {
-    let page = page.clamp(1, numbers.len() + 1);
+    // Where the bounds are refused, a page of 1 is enough for the run to refuse in its own order.
+    let most = bounds(ends, packed).map_or(0, |bounds| bounds.members as usize);
+    let page = page.clamp(1, most.min(numbers.len()) + 1);
     let mut members = Members {
         numbers,
         ends,
@@ -60,6 +63,12 @@ impl Members<'_> {
     /// the first member it is the bookmark that was given.
     pub fn bookmark(&self) -> u64 {
         self.bookmark
+    }
+
+    /// How many replies a page has room for.
+    #[cfg(test)]
+    pub(crate) fn page(&self) -> usize {
+        self.replies.len()
     }
 
     fn draw(&mut self) -> Result<(), Refusal> {

@@ -1,6 +1,7 @@
-//! The C side: the header says the same numbers as this package, and the example prints what stands beside it.
+//! The C side: the header says the same numbers, structs and functions as this package, and the example prints what stands beside
+//! it.
 
-use std::collections::BTreeMap;
+use std::collections::{BTreeMap, BTreeSet};
 use std::fmt::Debug;
 use std::fs;
 use std::path::{Path, PathBuf};
@@ -15,9 +16,17 @@ fn root() -> PathBuf {
     Path::new(env!("CARGO_MANIFEST_DIR")).join("..")
 }
 
+fn text(file: &str) -> String {
+    fs::read_to_string(root().join(file)).unwrap()
+}
+
+fn header() -> String {
+    text("include/zwailmoor.h")
+}
+
 /// Name and value of every constant of the header; its macros with an argument are called by `round_trip.c`.
 fn header_constants() -> BTreeMap<String, u64> {
-    let header = fs::read_to_string(root().join("include/zwailmoor.h")).unwrap();
+    let header = header();
     let lines = header.lines().filter_map(|line| line.strip_prefix("#define ZWAILMOOR_"));
     let constants = lines
         .filter_map(|line| line.split_once(' '))
@@ -74,6 +83,43 @@ fn constants() {
     assert_eq!(header_constants(), expected);
 }
 
+/// The structs of a text with the fields of each, in order: a struct begins at a line with this text and ends at a brace.
+fn structs(text: &str, begin: &str, field: fn(&str) -> String) -> BTreeMap<String, Vec<String>> {
+    let lines: Vec<&str> = text.lines().collect();
+    let bodies = lines.split_inclusive(|line| line.starts_with('}'));
+    let one = |body: &[&str]| {
+        let at = body.iter().position(|line| line.starts_with(begin))?;
+        let name = body[at][begin.len()..].trim_end_matches(" {").replace('_', "").to_lowercase();
+        let fields = body[at + 1..body.len() - 1].iter().map(|line| field(line.trim()));
+        Some((name, fields.collect()))
+    };
+    bodies.filter_map(one).collect()
+}
+
+/// `uint16_t places[ZWAILMOOR_NODES];` as `places: [u16; 48]`.
+fn as_in_rust(field: &str) -> String {
+    let (c_type, name) = field.trim_end_matches(';').split_once(' ').unwrap();
+    let rust_type = c_type.replace("size_t", "usize").replace("uint", "u").replace("_t", "");
+    match name.split_once("[ZWAILMOOR_NODES]") {
+        Some((name, _)) => format!("{name}: [{rust_type}; 48]"),
+        None => format!("{name}: {rust_type}"),
+    }
+}
+
+/// The header's structs have the fields of those in `src/ffi.rs`, in the same order and of the same types.
+#[test]
+fn results() {
+    let from_c = structs(&header(), "typedef struct zwailmoor_", as_in_rust);
+    let from_rust = structs(&text("rust/src/ffi.rs"), "pub struct ", |field| {
+        field.trim_start_matches("pub ").trim_end_matches(',').to_string()
+    });
+    assert_eq!(from_c, from_rust);
+    assert_eq!(
+        from_c["boundsresult"],
+        ["number: u32", "members: u32", "moves: u32", "bytes: usize"]
+    );
+}
+
 /// The example's program, built once for all tests here.
 fn built_console() -> &'static Path {
     static PROGRAM: OnceLock<PathBuf> = OnceLock::new();
@@ -101,9 +147,22 @@ fn console(program: &Path, name: &str, input: &[u8], change: &[&str]) -> Output 
     console.arg(file).args(change).output().expect("the example runs")
 }
 
-/// Each of the header's prototypes is called from C.
+/// The functions that a text names ahead of their arguments.
+fn functions(text: &str) -> BTreeSet<&str> {
+    let letter = |c: char| c.is_ascii_lowercase() || c == '_';
+    let ahead = text.match_indices('(').map(|(at, _)| &text[..at]);
+    let names = ahead.map(|ahead| &ahead[ahead.trim_end_matches(letter).len()..]);
+    names.filter(|name| name.starts_with("zwailmoor_")).collect()
+}
+
+/// Each of the header's prototypes is called from C, and is in `src/ffi.rs`.
 #[test]
 fn round_trip() {
+    let header = header();
+    let prototypes = functions(&header);
+    assert_eq!(prototypes.len(), 10);
+    assert_eq!(functions(&text("rust/src/ffi.rs")), prototypes);
+    assert_eq!(functions(&text("rust/tests/round_trip.c")), prototypes);
     let program = build("round_trip", "rust/tests/round_trip.c");
     let ended = Command::new(program).status().expect("the program runs");
     assert_eq!(ended.code(), Some(0), "the first requirement that did not hold");
@@ -114,7 +173,7 @@ fn example() {
     let program = built_console();
     let sample = fs::read(root().join("samples/console")).unwrap();
     let printed = console(program, "sample", &sample, &["3", "101"]);
-    let expected = fs::read_to_string(root().join("examples/console.out")).unwrap();
+    let expected = text("examples/console.out");
     assert_eq!(String::from_utf8_lossy(&printed.stdout), expected);
     assert_eq!((printed.status.code(), printed.stderr), (Some(0), vec![]));
 
@@ -122,6 +181,7 @@ fn example() {
     let two = [0x01, 0x00, 0x06, 0x00, 0x04, 0x00, 0x00, 0x00, 0x04, 0x00];
     let printed = console(program, "two", &two, &[]);
     let text = String::from_utf8_lossy(&printed.stdout).into_owned();
+    assert!(text.contains("at most members 2, moves 2; reserved replies 3\n"), "{text}");
     assert!(
         text.contains("page 1 from bookmark 0: 2 3; go on from bookmark 4\n"),
         "{text}"
@@ -131,6 +191,16 @@ fn example() {
         "{text}"
     );
     assert!(text.ends_with("members 2\n"), "{text}");
+
+    // Of an empty list only finished can come, and there is one place for it; a number that is added takes it.
+    let printed = console(program, "empty", &[0x01, 0x00, 0x06, 0x00, 0x00], &["0", "7"]);
+    let text = String::from_utf8_lossy(&printed.stdout).into_owned();
+    let expected = "at most members 0, moves 0; reserved replies 1\n\
+                    page 1 from bookmark 0: finished; go on from bookmark 4294967296\n\
+                    members 0\n\
+                    7 added to list 0; members 1: 7\n";
+    assert!(text.ends_with(expected), "{text}");
+    assert_eq!(printed.status.code(), Some(0));
 }
 
 #[test]
@@ -170,7 +240,7 @@ fn example_refuses() {
 fn example_without_the_withdrawn() {
     let sample = fs::read(root().join("samples/undelivered")).unwrap();
     let printed = console(built_console(), "undelivered", &sample, &[]);
-    let expected = fs::read_to_string(root().join("examples/undelivered.out")).unwrap();
+    let expected = text("examples/undelivered.out");
     let both = [printed.stdout, printed.stderr].concat();
     assert_eq!(String::from_utf8_lossy(&both), expected);
     assert_eq!(printed.status.code(), Some(1));

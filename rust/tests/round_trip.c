@@ -1,6 +1,7 @@
 /* Every call of the header once, on the papers' small inputs: 0 is returned where all are as the papers say. */
 #include "zwailmoor.h"
 
+#include <stdlib.h>
 #include <string.h>
 
 #define REQUIRE(line, holds) \
@@ -89,6 +90,41 @@ static int runs(void)
     return 0;
 }
 
+/* What is reserved by the bounds is enough, and here no less would be. */
+static int bounds(void)
+{
+    static const uint32_t numbers[3] = {0, UINT32_MAX, 3}; /* 0 4294967295, and 3 */
+    static const uint32_t ends[2] = {2, 3};
+    static const uint32_t falling[2] = {2, 1};
+    static const uint8_t difference[2] = {0x40, 0x01}; /* list 0 minus list 1 */
+    const uint32_t all = ZWAILMOOR_ALL_DELIVERED;
+    zwailmoor_bounds_result most = zwailmoor_bounds(ends, 2, difference, 2);
+    REQUIRE(34, most.number == ZWAILMOOR_ACCEPTED && most.members == 2 && most.moves == 3 && most.bytes == 18)
+    const size_t calls = (size_t)most.members + 1;
+    uint8_t *codes = calloc(calls, sizeof *codes);
+    uint32_t *arguments = calloc(calls, sizeof *arguments);
+    uint64_t *replies = calloc(calls, sizeof *replies);
+    uint8_t *delivery = calloc(most.bytes, 1);
+    REQUIRE(35, codes != NULL && arguments != NULL && replies != NULL && delivery != NULL)
+    zwailmoor_run_result result =
+        zwailmoor_run(numbers, 3, ends, 2, all, difference, 2, 0, codes, calls, arguments, calls, replies, calls);
+    REQUIRE(36, result.number == ZWAILMOOR_ACCEPTED && result.moves == most.moves)
+    REQUIRE(37, replies[0] == 0 && replies[1] == UINT32_MAX && replies[2] == ZWAILMOOR_FINISHED)
+    zwailmoor_write_result out = zwailmoor_encode_delivery(numbers, 3, ends, 2, all, delivery, most.bytes);
+    REQUIRE(38, out.number == ZWAILMOOR_ACCEPTED && out.count == most.bytes)
+    uint32_t numbers_back[3];
+    uint32_t ends_back[2];
+    zwailmoor_decode_result in = zwailmoor_decode_delivery(delivery, out.count, numbers_back, ends[1], ends_back, 2);
+    REQUIRE(39, in.number == ZWAILMOOR_ACCEPTED && memcmp(numbers_back, numbers, sizeof numbers) == 0 && ends_back[1] == 3)
+    free(codes);
+    free(arguments);
+    free(replies);
+    free(delivery);
+    most = zwailmoor_bounds(falling, 2, difference, 2);
+    REQUIRE(40, most.number == ZWAILMOOR_BAD_ENDS && most.members == 0 && most.moves == 0 && most.bytes == 0)
+    return 0;
+}
+
 static int updates(void)
 {
     static const uint8_t difference[2] = {0x40, 0x01}; /* list 0 minus list 1 */
@@ -132,6 +168,7 @@ int main(void)
     wrong = wrong == 0 ? deliveries() : wrong;
     wrong = wrong == 0 ? moves() : wrong;
     wrong = wrong == 0 ? runs() : wrong;
+    wrong = wrong == 0 ? bounds() : wrong;
     wrong = wrong == 0 ? updates() : wrong;
     return wrong == 0 ? undelivered_updates() : wrong;
 }

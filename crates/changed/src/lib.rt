@@ -17,17 +17,17 @@ use evaluator::Lists;
 use evaluator::Updated;
 
 // The comparisons beside those of a run, by the number that `differs` has where one fails.
-pub const NUMBERS: u32 = 9;
+pub const NUMBERS: u32 = 10;
 
-pub const ENDS: u32 = 10;
+pub const ENDS: u32 = 11;
 
-pub const KEPT: u32 = 11;
+pub const KEPT: u32 = 12;
 
-pub const COUNT: u32 = 12;
+pub const COUNT: u32 = 13;
 
-pub const AFRESH: u32 = 13;
+pub const AFRESH: u32 = 14;
 
-pub const TAKEN_BACK: u32 = 14;
+pub const TAKEN_BACK: u32 = 15;
 
 // What came out differently, 0 where nothing did, the engine's number, and whether a member came or went.
 pub struct Outcome {

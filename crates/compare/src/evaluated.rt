@@ -1,5 +1,6 @@
 // What the engine handed back, beside what the second evaluator says of the same input.
 use crate::BOOKMARK;
+use crate::BOUNDS;
 use crate::MARK;
 use crate::MEMBERS;
 use crate::NUMBER;
@@ -12,6 +13,7 @@ use cases::first_bytes;
 use cases::first_numbers;
 use evaluator::Begin;
 use evaluator::Lists;
+use model::BoundsResult;
 use model::RunResult;
 ghost use Prim.Native.Nat.{_<_};
 
@@ -81,6 +83,24 @@ pub fn run(
     let last = other.last;
     if !same_begin(last, last_of(ran)) {
         return differs(BOOKMARK, 0, last.bookmark);
+    }
+    none()
+}
+
+// Bounds: the number, then the three, members, moves and bytes, counted from 0.
+pub fn bounds(lists: Lists, packed: &[u8], got: BoundsResult) -> Difference {
+    let other = evaluator::bounds(lists, packed);
+    if other.number != got.number {
+        return differs(NUMBER, 0, rows::wide(other.number));
+    }
+    if other.members != got.members {
+        return differs(BOUNDS, 0, rows::wide(other.members));
+    }
+    if other.moves != got.moves {
+        return differs(BOUNDS, 1, rows::wide(other.moves));
+    }
+    if other.bytes != got.bytes {
+        return differs(BOUNDS, 2, rows::long(other.bytes));
     }
     none()
 }

@@ -1,9 +1,10 @@
-// A case's lists and where its run begins, as the second evaluator takes them; and the engine's run from these. What else comes to
-// lists, or to where a run begins, is handed on here.
+// A case's lists and where its run begins, as the second evaluator takes them; and the engine's run and bounds from these. What else
+// comes to lists, or to where a run begins, is handed on here.
 use crate::rows::wide;
 use cases::first_numbers;
 use evaluator::Begin;
 use evaluator::Lists;
+use model::BoundsResult;
 use model::RunResult;
 
 pub fn lists_of(made: cases::Lists) -> Lists {
@@ -68,4 +69,10 @@ pub fn run(
         arguments,
         replies,
     )
+}
+
+// The bounds that the engine gives.
+pub fn bounds(lists: Lists, packed: &[u8]) -> BoundsResult {
+    let ends = lists.ends;
+    bounds::bounds(first_numbers(&ends, lists.count), packed)
 }

@@ -1,5 +1,5 @@
 // One generated case given to the engine and to the second evaluator: both stored forms written and read back, the delivery moved to
-// its old form and back, a run, the run broken off and resumed, and the program's list.
+// its old form and back, a run, the run broken off and resumed, the bounds, and the program's list.
 pub mod evaluated;
 pub mod lent;
 pub mod rows;
@@ -58,6 +58,8 @@ pub const BROKEN: u32 = 7;
 
 pub const MEMBERS: u32 = 8;
 
+pub const BOUNDS: u32 = 9;
+
 fn failed(what: u32) -> Verdict {
     Verdict {
         differs: what,
@@ -69,9 +71,9 @@ fn failed(what: u32) -> Verdict {
 }
 
 // How far each node's reader can have moved: to the end of its list; not at all in a run that is refused.
-fn bounds(number: u32, numbers: &[u32], lists: Lists, packed: &[u8]) -> [u32; 48] {
+fn reaches(number: u32, numbers: &[u32], lists: Lists, packed: &[u8]) -> [u32; 48] {
     if number == 0 {
-        return evaluator::lengths(numbers, lists, packed);
+        return evaluator::lengths(numbers.len(), lists, packed);
     }
     [0; 48]
 }
@@ -112,7 +114,7 @@ fn run_both(
         return failed(d.what);
     }
     let places = r.places;
-    if !are_places(places, bounds(r.number, numbers, lists, packed), r.moves) {
+    if !are_places(places, reaches(r.number, numbers, lists, packed), r.moves) {
         return failed(PLACES);
     }
     Verdict {
@@ -122,6 +124,39 @@ fn run_both(
         last: last_of(r),
         replies,
     }
+}
+
+// Whether the bounds that the engine gives are the evaluator's, and, of what was accepted, none is below what came: so many members
+// and moves, and so many bytes of the lists' delivery.
+fn is_bounded(
+    lists: Lists,
+    packed: &[u8],
+    number: u32,
+    members: u64,
+    moves: u64,
+    bytes: usize,
+) -> bool {
+    let b = lent::bounds(lists, packed);
+    if evaluated::bounds(lists, packed, b).what != 0 {
+        return false;
+    }
+    if number != 0 {
+        return true;
+    }
+    let drawn = members <= rows::wide(b.members) && moves <= rows::wide(b.moves);
+    b.number == 0 && drawn && bytes <= b.bytes
+}
+
+// What came of a run, once the bounds hold for it.
+fn bounded(v: Verdict, lists: Lists, packed: &[u8], bytes: usize) -> Verdict {
+    if v.differs != 0 {
+        return v;
+    }
+    let t = totals::with_run(totals::none(), v);
+    if is_bounded(lists, packed, v.number, t.members, t.moves, bytes) {
+        return v;
+    }
+    failed(BOUNDS)
 }
 
 // The same calls in two runs, broken off before call k: whether their replies, one after the other, and the last bookmark are
@@ -157,7 +192,7 @@ fn breaks(
         last_numbers(arguments, k),
         &mut two,
     );
-    let bound = evaluator::lengths(numbers, lists, packed);
+    let bound = evaluator::lengths(numbers.len(), lists, packed);
     let first_places = first.places;
     let second_places = second.places;
     let placed = are_places(first_places, bound, first.moves)
@@ -184,8 +219,8 @@ fn moves_of(numbers: &[u32], lists: Lists, packed: &[u8], nexts: usize) -> u32 {
     r.moves
 }
 
-// Whether the program's work lists every member that the evaluator draws by next, nothing behind them, and its moves are those of a
-// run of a next for each and one more; or is refused by the evaluator's number, with its row as it was.
+// Whether the program's work lists every member that the evaluator draws by next, nothing behind them, its moves are those of a run of
+// a next for each and one more, and both are within their bounds; or is refused by the evaluator's number, with its row as it was.
 fn is_listed(numbers: &[u32], lists: Lists, packed: &[u8], input: &[u8]) -> bool {
     let mut members = [MARK_32; 512];
     let listed = listing::list_members(input, &mut members);
@@ -200,7 +235,8 @@ fn is_listed(numbers: &[u32], lists: Lists, packed: &[u8], input: &[u8]) -> bool
     if listed.number != 0 {
         return count == 0 && listed.moves == 0;
     }
-    listed.moves == moves_of(numbers, lists, packed, count % 513 + 1)
+    let moves = moves_of(numbers, lists, packed, count % 513 + 1);
+    listed.moves == moves && is_bounded(lists, packed, 0, rows::long(count), rows::wide(moves), 0)
 }
 
 // The program's input, the expression's length, the expression and the delivery, and whether it is listed.
@@ -230,7 +266,8 @@ fn compare_calls(
     let run_numbers = first_numbers(&arguments, c.count);
     let bytes = d.bytes;
     let delivery = first_bytes(&bytes, d.count);
-    let v = run_both(numbers, lists, packed, begin, run_codes, run_numbers, 32);
+    let ran = run_both(numbers, lists, packed, begin, run_codes, run_numbers, 32);
+    let v = bounded(ran, lists, packed, d.count);
     let whole = v.replies;
     if v.differs != 0 {
         return v;
@@ -367,18 +404,21 @@ fn compare_damaged(case: u64) -> Verdict {
     let run_codes = first_bytes(&codes, c.count);
     let arguments = c.arguments;
     let run_numbers = first_numbers(&arguments, numbers_of(case, c.count));
-    if !lists_damaged(case, expression) {
-        return failed(MEMBERS);
-    }
-    run_both(
+    let lists = lists_of(l);
+    let ran = run_both(
         used,
-        lists_of(l),
+        lists,
         expression,
         begin_of(begin),
         run_codes,
         run_numbers,
         room_of(case, c.count),
-    )
+    );
+    let v = bounded(ran, lists, expression, 0);
+    if v.differs == 0 && !lists_damaged(case, expression) {
+        return failed(MEMBERS);
+    }
+    v
 }
 
 // One case, as it is made or damaged.

@@ -1,6 +1,7 @@
 // A case of the script by its kind: its fields are read, and the call is made. Each function answers what the line came to.
 use crate::given;
 use crate::given::Row8;
+use crate::limits;
 use crate::long;
 use crate::marks;
 use crate::programs;
@@ -43,6 +44,9 @@ fn fields(kind: &[u8]) -> Bounds {
     if check::same(kind, b"update") {
         return from(10, 11);
     }
+    if check::same(kind, b"bounds") {
+        return from(4, 4);
+    }
     fields_of_bytes(kind)
 }
 
@@ -78,6 +82,9 @@ pub fn case(line: &[u8]) -> Line {
     }
     if moves(kind) {
         return moved(line, kind);
+    }
+    if check::same(kind, b"bounds") {
+        return of_ends(line);
     }
     of_bytes(line, kind)
 }
@@ -271,6 +278,22 @@ fn update_of_kept(line: &[u8], numbers: &[u32], lists: Lists, packed: &[u8], c: 
         c,
         marks::front_32(&row, kept.count),
         size(count),
+    )
+}
+
+// name | bounds | ends | packed. The call takes no word: every list counts as delivered
+fn of_ends(line: &[u8]) -> Line {
+    let ends = given::whole(line, 2);
+    let packed = given::bytes(line, 3);
+    if !ends.good || !packed.good {
+        return Line::Unread;
+    }
+    let end_row = ends.row;
+    let row = packed.row;
+    limits::bounds(
+        words::field(line, 0),
+        evaluator::laid(marks::front_32(&end_row, ends.count), u32::MAX),
+        marks::front_8(&row, packed.count),
     )
 }
 

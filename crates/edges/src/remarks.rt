@@ -26,6 +26,7 @@ fn says(what: u32, at: usize, n: u64) {
     match what {
         compare::NUMBER => number(n),
         compare::BOOKMARK => text::with(b"bookmark ", n),
+        compare::BOUNDS => element(b"bound ", at, n),
         changed::NUMBERS => element(b"number ", at, n),
         changed::ENDS => element(b"end ", at, n),
         changed::KEPT => element(b"kept number ", at, n),

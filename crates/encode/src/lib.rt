@@ -38,7 +38,7 @@ fn narrow(x: usize) -> u32
 
 // How many bits a list of so many numbers takes, 17 of them its bit and its count, with gaps of w bits; one that did not
 // come has its bit alone.
-fn bits_of(delivered: bool, count: usize, w: usize) -> usize
+pub fn bits_of(delivered: bool, count: usize, w: usize) -> usize
     requires { ⌜ (count ≤ 65535) × (w ≤ 32) ⌝ }
     ensures { λ r. ⌜ r ≡ cond delivered (list-size 17 count w) 1 ⌝ }
 {

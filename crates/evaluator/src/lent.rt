@@ -83,9 +83,9 @@ fn most(lists: Lists, k: usize) -> usize {
     if is_delivered(lists, k) { 65535 } else { 0 }
 }
 
-fn are_sized(numbers: &[u32], lists: Lists) -> bool {
+fn are_sized(row: usize, lists: Lists) -> bool {
     for k in 0..lists.count {
-        if !is_sized(lists, k, numbers.len()) {
+        if !is_sized(lists, k, row) {
             return false;
         }
     }
@@ -121,20 +121,20 @@ fn are_ascending(numbers: &[u32], ends: &[u32]) -> bool {
     true
 }
 
-// What is refused of the ends: 7 or 10, else 0.
-pub fn ends_refused(numbers: &[u32], lists: Lists) -> u32 {
+// What is refused of the ends of lists in so long a row: 7 or 10, else 0.
+pub fn ends_refused(row: usize, lists: Lists) -> u32 {
     if lists.count == 0 {
         return 7;
     }
     if 32 < lists.count {
         return 7;
     }
-    if are_sized(numbers, lists) { 0 } else { 10 }
+    if are_sized(row, lists) { 0 } else { 10 }
 }
 
 // What is refused of the lists: 7, 10 or 11, each over all lists before the next, else 0.
 pub fn refused(numbers: &[u32], lists: Lists) -> u32 {
-    let number = ends_refused(numbers, lists);
+    let number = ends_refused(numbers.len(), lists);
     if number != 0 {
         return number;
     }

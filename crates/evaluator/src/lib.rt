@@ -1,11 +1,15 @@
 // A second evaluator for runs: what the paper's plain machine replies, over membership that is decided number by number.
 // It has no readers and no steps, so that it shares nothing with an engine that it is compared with. And one for a change of a
-// list, with the kept row of members: both are worked out afresh, and nothing is moved in a row.
+// list, with the kept row of members: both are worked out afresh, and nothing is moved in a row. And one for how large it can get.
+mod bound;
 mod change;
 mod lent;
 mod member;
 mod tokens;
 
+pub use bound::Bounded;
+pub use bound::bounds;
+pub use bound::lengths;
 pub use change::Change;
 pub use change::Updated;
 pub use change::members;
@@ -194,34 +198,4 @@ pub fn answer(
         replies,
     );
     Answered { number: 0, last }
-}
-
-// The length of the list at a token, 0 at an operator.
-fn length(lists: Lists, token: u8) -> u32 {
-    let ends = lists.ends;
-    if tokens::kind(token) == 0 {
-        (lent::size(stops(&ends, lists.count), place(tokens::value(token))) % 65536) as u32
-    } else {
-        0
-    }
-}
-
-fn place(x: u8) -> usize {
-    x as usize
-}
-
-// Of each node in expression order the length of its list, 0 at an operator or where there is no node: what its
-// reader's place can reach. All 0 where the ends (7, 10) or the expression (1 to 5, 18) do not read.
-pub fn lengths(numbers: &[u32], lists: Lists, packed: &[u8]) -> [u32; 48] {
-    let mut found = [0u32; 48];
-    if lent::ends_refused(numbers, lists) != 0 {
-        return found;
-    }
-    let read = tokens::tokens_of(packed, lists);
-    let row = read.tokens;
-    let count = read.count % 49;
-    for i in 0..count {
-        found[i] = length(lists, row[i]);
-    }
-    found
 }

@@ -3,3 +3,4 @@ pub mod Levels
 pub mod Positions
 pub mod Nodes
 pub mod Turns
+pub mod Handed

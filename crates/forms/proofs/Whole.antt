@@ -8,8 +8,7 @@ use Prim.Native.Nat.{ℕ, _-_, _*_, _≤_, _<_}
 use native.Mathlib.Nat.{zero-add}
 use native.Mathlib.Omega.{arith}
 use lib.Dec.{leb}
-use lib.ListN.{length, take, drop, replicate, length-append, length-replicate}
-use lib.Seq.{take-at}
+use lib.ListN.{length, drop}
 use borrow.Author.Tests.{le-leb, lt-leb}
 use Rattle.model.specs.Outcome.{Outcome, refused, accepted, _>>=_, _>>_, require, number-of, Sent, over, sent}
 use Rattle.model.specs.Lists.{count-holds}
@@ -17,46 +16,12 @@ use Rattle.model.specs.Expression.{Tree, size}
 use Rattle.model.specs.Fields.{Bytes, field, fill, bytes}
 use Rattle.model.specs.Forms.{nodes, row, packed, Leaf-test, there, read-row, read-packed}
 use Rattle.model.specs.Calls.{written-refused, written, unpack-expression, pack-expression}
-use Rattle.model.specs.Demands.{Expression}
 use Rattle.model.proofs.Accepted.{Narrow}
-use Rattle.model.proofs.Shape.{row-long}
-use Rattle.expression.specs.declared.Expression.{Expression as Read}
-use Rattle.expression.specs.Reading.{expression-of}
 use Rattle.fields.specs.Positions.{put-bits}
 use Rattle.fields.proofs.Puts.{put-append, put-whole, bytes-length}
+use Rattle.expression.proofs.Handed.{of-read, Holds}
 use Rattle.forms.specs.Packing.{row-bits}
 use Rattle.forms.proofs.Nodes.{tree-packed}
-
--- what is written of what was read
-unfoldable pub of-read : (Tree → List ℕ) → Outcome Tree → List ℕ
-of-read form (refused n) = []
-of-read form (accepted t) = form t
-
--- ---- what reading hands back
-
--- an expression, if any
-abbrev pub Holds : Leaf-test → Outcome Tree → Type 0
-Holds test o = (t : Tree) → o ≡ accepted t → Expression test t
-
--- its number, and its nodes at the start of a row of 48
-pub record Handed (o : Outcome Tree) (r : Read) : Type 0 where
-  pub number : r .number ≡ number-of o
-  pub count : r .count ≡ length (of-read row o)
-  pub few : r .count ≤ 48
-  pub all : length (r .nodes) ≡ 48
-  pub nodes : take (r .count) (r .nodes) ≡ of-read row o
-
-pub handed : {test : Leaf-test} (o : Outcome Tree) {r : Read} → Holds test o → r ≡ expression-of o → Handed o r
-unfolding expression-of of-read number-of
-handed (refused n) h e = rw e (record { number = refl; count = refl; few = omega arith; all = refl; nodes = refl })
-handed (accepted t) h e =
-    rw e (record {
-      number = refl;
-      count = sym (row-long t);
-      few = h t refl .nodes;
-      all = omega (arith, length-append (row t) (replicate (48 - size t) 0), length-replicate {A = ℕ} (48 - size t) 0, row-long t, h t refl .nodes);
-      nodes = take-at (row t) _ (size t) (row-long t);
-    })
 
 -- ---- what a call sends back
 

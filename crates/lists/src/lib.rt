@@ -4,7 +4,7 @@
 ghost use mathlib.Core.Path.{_≡_};
 ghost use mathlib.Core.Bool.{true, _&&_, _||_};
 ghost use mathlib.Core.List.{_∷_};
-ghost use Prim.Native.Nat.{_≤_};
+ghost use Prim.Native.Nat.{_-_, _≤_, _<_};
 ghost use lib.Dec.{eqb};
 ghost use denote.Ref.{ptr};
 ghost use lib.ListN.{length, getD};
@@ -87,7 +87,7 @@ pub fn count_holds(lists: usize) -> bool
 }
 
 // 10 does not apply for the ends, with a row of so many numbers.
-fn ends_hold(size: usize, ends: &[u32]) -> bool
+pub fn ends_hold(size: usize, ends: &[u32]) -> bool
     ensures { λ r. ⌜ r ≡ ends-hold size 0 (now (ends .entry)) ⌝ }
 {
     let mut start: usize = 0;
@@ -189,6 +189,14 @@ pub fn start_of(ends: &[u32], k: usize) -> usize
         return 0;
     }
     wide(ends[k - 1])
+}
+
+// How many numbers list k has.
+pub fn length_of(ends: &[u32], k: usize) -> usize
+    requires { ⌜ (k < length (now ends)) × (getD (0 ∷ now ends) k 0 ≤ getD (now ends) k 0) ⌝ }
+    ensures { λ r. ⌜ r ≡ getD (now (ends .entry)) k 0 - getD (0 ∷ now (ends .entry)) k 0 ⌝ }
+{
+    start_of(ends, k + 1) - start_of(ends, k)
 }
 
 // Where list k's part stands; the empty part at the start where 7, 10 or 11 would apply or there is no list k.

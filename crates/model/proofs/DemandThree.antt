@@ -35,7 +35,7 @@ small-call (suc (suc zero)) d h = h
 small-call (suc (suc (suc zero))) d h = h
 small-call (suc (suc (suc (suc code)))) d h = tt
 
-small-calls : (codes ds : List ℕ) → Numbers ds → All-small (calls codes ds)
+pub small-calls : (codes ds : List ℕ) → Numbers ds → All-small (calls codes ds)
 unfolding calls
 small-calls [] ds h = tt
 small-calls (c ∷ cs) [] h = tt

@@ -185,7 +185,7 @@ lists-back l bytes lent-numbers lent-ends small ls e z room-numbers room-ends =
     let d = decoded-as (wrote (encode-delivery l bytes)) lent-numbers lent-ends ss (ap (read-delivery (length lent-numbers) (length lent-ends)) there ∙ reads) in
     (d .number, d .lists ∙ ap accepted are, d .word ∙ word-back (l .word) ls (at-most-32 (length ls) (held .1)))
 
-delivery-back : (bytes lent-numbers lent-ends lent : List ℕ) → Bytes bytes → decode-delivery bytes lent-numbers lent-ends .number ≡ 0 → length bytes ≤ length lent
+pub delivery-back : (bytes lent-numbers lent-ends lent : List ℕ) → Bytes bytes → decode-delivery bytes lent-numbers lent-ends .number ≡ 0 → length bytes ≤ length lent
     → encode-delivery (left-lent (decode-delivery bytes lent-numbers lent-ends)) lent ≡ wrote-all bytes lent
 delivery-back bytes lent-numbers lent-ends lent small z room =
     let r = read-by bytes lent-numbers lent-ends z in

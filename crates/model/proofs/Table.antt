@@ -27,6 +27,9 @@ use Rattle.model.specs.Program.{halves, listing-of, listing, listed, lis
 use Rattle.model.specs.Update
 use Rattle.model.specs.Update.{Change, change, update, updated}
 use Rattle.model.specs.RequestTwo.{every-bit}
+use Rattle.model.specs.Demands.{lengths, sum}
+use Rattle.model.specs.Bounds
+use Rattle.model.specs.Bounds.{bounds}
 
 -- opens the definitions: under `unfolding computes` each side of a table computes
 opens-lists : Unit {0}
@@ -57,8 +60,12 @@ opens-update : Unit {0}
 unfolding update Update.update-of Update.fits Update.has-room Update.is-new Update.shows Update.same Update.new-lists Update.new-list Update.remove
 opens-update = tt
 
+opens-bounds : Unit {0}
+unfolding bounds Bounds.bounds-of Bounds.lengths-from Bounds.ends-rise Bounds.most-members Bounds.most-moves Bounds.most-bits Bounds.most-bytes Delivery.list-size lengths sum
+opens-bounds = tt
+
 computes : Unit {0}
-unfolding opens-lists opens-machine opens-steps opens-forms opens-delivery opens-calls opens-update
+unfolding opens-lists opens-machine opens-steps opens-forms opens-delivery opens-calls opens-update opens-bounds
 computes = tt
 
 -- P9's list 2 3 5 in Two's form, a bit of 1 ahead of its count; and the program's stored example, the expression list 0
@@ -1031,3 +1038,61 @@ order-program = refl
 pub members-18 : list-members (0x01 ∷ 0x00 ∷ 0x04 ∷ []) sevens ≡ refuses 18 2 (sevens ∷ [])
 unfolding computes
 members-18 = refl
+
+-- ---- request Four
+
+-- over lists as long as L0 to L3, by 7, 5, 5 and 6: a list; a difference, whose second is the shorter, and the longer; a union; an
+-- intersection with the least in the middle, and last; a list at two leaves; operators below an operator, ahead of a list and behind one
+abbrev bound-cases : List (Tree × ℕ × ℕ)
+bound-cases =
+    (leaf 3, 6, 6) ∷
+    (difference (leaf 0) (leaf 3), 7, 13) ∷
+    (difference (leaf 1) (leaf 0), 5, 12) ∷
+    (union all-four, 23, 23) ∷
+    (intersection all-four, 5, 23) ∷
+    (intersection (more (leaf 0) (more (leaf 3) (one (leaf 1)))), 5, 18) ∷
+    (union (more (leaf 0) (one (leaf 0))), 14, 14) ∷
+    (intersection (more (leaf 0) (one (leaf 0))), 7, 14) ∷
+    (difference (union (more (intersection (more (leaf 0) (one (leaf 3)))) (one (leaf 1)))) (leaf 2), 11, 23) ∷
+    (intersection (more (leaf 0) (one (union (more (leaf 1) (one (difference (leaf 2) (leaf 3))))))), 7, 23) ∷
+    (union (one (union (one (leaf 2)))), 5, 5) ∷ []
+
+pub bounds-said : map (λ b. bounds (7 ∷ 12 ∷ 17 ∷ 23 ∷ []) (packed (b .0))) bound-cases ≡ map (λ b. gives (b .1 ∷ b .2 ∷ 104 ∷ []) []) bound-cases
+unfolding computes
+bounds-said = refl
+
+-- the bytes by the lengths: 0, 1 and 2, alone and one after the other; two and three empty lists, which take 40 bits and 57; 32 empty
+-- lists; the most, and 48 nodes, 42 of them a list as long
+abbrev full-ends : ℕ → ℕ → List ℕ
+full-ends zero start = []
+full-ends (suc n) start = (start + 65535) ∷ full-ends n (start + 65535)
+
+pub bounds-bytes :
+    map (λ ends. bounds ends (0x00 ∷ [])) ((0 ∷ []) ∷ (1 ∷ []) ∷ (2 ∷ []) ∷ (0 ∷ 1 ∷ 3 ∷ []) ∷ (0 ∷ 0 ∷ []) ∷ (0 ∷ 0 ∷ 0 ∷ []) ∷ replicate 32 0 ∷ full-ends 32 0 ∷ []) ++ (bounds (full-ends 1 0) forty-eight ∷ [])
+    ≡
+    gives (0 ∷ 0 ∷ 3 ∷ []) [] ∷ gives (1 ∷ 1 ∷ 7 ∷ []) [] ∷ gives (2 ∷ 2 ∷ 12 ∷ []) [] ∷ gives (0 ∷ 0 ∷ 20 ∷ []) [] ∷ gives (0 ∷ 0 ∷ 5 ∷ []) [] ∷ gives (0 ∷ 0 ∷ 8 ∷ []) [] ∷ gives (0 ∷ 0 ∷ 69 ∷ []) [] ∷
+    gives (65535 ∷ 65535 ∷ 8388569 ∷ []) [] ∷ gives (2752470 ∷ 2752470 ∷ 262144 ∷ []) [] ∷ []
+unfolding computes
+bounds-bytes = refl
+
+-- "each width taken as 32": a delivery that fills them, in as many bytes and in one less; and one of the same length that does not
+pub bounds-filled :
+    encode-delivery (lend (0 ∷ 4294967295 ∷ []) (2 ∷ []) every-bit) (replicate 12 0) .parts ∷ encode-delivery (lend (0 ∷ 4294967295 ∷ []) (2 ∷ []) every-bit) (replicate 11 0) .parts ∷
+    encode-delivery (lend (0 ∷ 1 ∷ []) (2 ∷ []) every-bit) (replicate 12 0) .parts ∷ []
+    ≡ (12 ∷ []) ∷ (0 ∷ []) ∷ (8 ∷ []) ∷ []
+unfolding computes
+bounds-filled = refl
+
+-- a union of list 0 eight times
+abbrev eight : Tree
+eight = union (more (leaf 0) (more (leaf 0) (more (leaf 0) (more (leaf 0) (more (leaf 0) (more (leaf 0) (more (leaf 0) (one (leaf 0)))))))))
+
+-- the tests: 7 for no list and for 33, before 10; 10 for an end that falls, for a first list over 65,535, before 1, and for a later one, before 5; 1, 2, 3, 4, 5
+pub bounds-refused :
+    bounds [] [] ∷ bounds (replicate 33 0) (0x00 ∷ []) ∷ bounds (65536 ∷ replicate 32 0) (0x00 ∷ []) ∷ bounds (2 ∷ 1 ∷ []) (0x00 ∷ []) ∷ bounds (65536 ∷ []) [] ∷
+    bounds (65535 ∷ 131071 ∷ []) (0x01 ∷ []) ∷ bounds (0 ∷ []) [] ∷
+    bounds (0 ∷ []) (packed (union (more eight (more eight (more eight (more eight (more eight (more (leaf 0) (more (leaf 0) (one (leaf 0))))))))))) ∷
+    bounds (0 ∷ []) (0x84 ∷ 0x21 ∷ 0x08 ∷ 0x42 ∷ 0x10 ∷ 0x84 ∷ 0x21 ∷ 0x00 ∷ 0x00 ∷ []) ∷ bounds (0 ∷ []) (0x02 ∷ []) ∷ bounds (0 ∷ []) (0x01 ∷ []) ∷ []
+    ≡ map (λ n. refuses n 3 []) (7 ∷ 7 ∷ 7 ∷ 10 ∷ 10 ∷ 10 ∷ 1 ∷ 2 ∷ 3 ∷ 4 ∷ 5 ∷ [])
+unfolding computes
+bounds-refused = refl

@@ -17,3 +17,5 @@ pub mod Demands
 pub mod Update
 pub mod RequestOne
 pub mod RequestTwo
+pub mod Bounds
+pub mod RequestFour

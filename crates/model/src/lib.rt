@@ -1,6 +1,7 @@
 // The types that the definitions and every other crate share. Their meaning is in specs/.
 ghost use mathlib.Core.Path.{_≡_};
 ghost use Rattle.model.specs.Calls.{written-refused, decoded-refused, ran-refused, counted-refused};
+ghost use Rattle.model.specs.Bounds.{bounded-refused};
 
 // One node of an expression: a list by its number, a difference of two nodes, a union or an intersection of 1 to 8
 // (their number). Its member nodes follow it, each with all that is below it.
@@ -99,6 +100,29 @@ impl MembersResult {
             number,
             count: 0,
             moves: 0,
+        }
+    }
+}
+
+// What is said of a run before it: the number of a refusal or 0, the most members, the most moves, and the most bytes of a delivery.
+#[repr(C)]
+pub struct BoundsResult {
+    pub number: u32,
+    pub members: u32,
+    pub moves: u32,
+    pub bytes: usize,
+}
+
+impl BoundsResult {
+    // The same, of what is said before a run.
+    pub fn refused(number: u32) -> Self
+        ensures { λ r. ⌜ r ≡ bounded-refused number ⌝ }
+    {
+        BoundsResult {
+            number,
+            members: 0,
+            moves: 0,
+            bytes: 0,
         }
     }
 }

@@ -44,14 +44,6 @@ impl Plan {
     }
 }
 
-// How many numbers list k has.
-fn length_of(ends: &[u32], k: usize) -> usize
-    requires { ⌜ (k < length (now ends)) × (getD (0 ∷ now ends) k 0 ≤ getD (now ends) k 0) ⌝ }
-    ensures { λ r. ⌜ r ≡ getD (now (ends .entry)) k 0 - getD (0 ∷ now (ends .entry)) k 0 ⌝ }
-{
-    lists::start_of(ends, k + 1) - lists::start_of(ends, k)
-}
-
 // 16 for a full list, then 6 for a full row of numbers; 0 for neither, or where a number is removed.
 fn test_room(size: usize, ends: &[u32], list: usize, adds: bool) -> u32
     requires { ⌜ (list < length (now ends)) × (getD (0 ∷ now ends) list 0 ≤ getD (now ends) list 0) ⌝ }
@@ -60,7 +52,7 @@ fn test_room(size: usize, ends: &[u32], list: usize, adds: bool) -> u32
     if !adds {
         return 0;
     }
-    if LONGEST <= length_of(ends, list) {
+    if LONGEST <= lists::length_of(ends, list) {
         return 16;
     }
     if size <= lists::start_of(ends, ends.len()) {

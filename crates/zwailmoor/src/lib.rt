@@ -8,8 +8,10 @@ ghost use Rattle.model.specs.Calls.{written, decoded, ran, unpack-expression, p
 ghost use Rattle.model.specs.Demands.{Third-demand-met};
 ghost use Rattle.model.specs.Update.{change, update, updated};
 ghost use Rattle.model.specs.RequestOne.{Request-one-met};
+ghost use Rattle.model.specs.Bounds.{bounds, bounded};
 ghost use Rattle.lists.specs.Span.{span-says};
 use lists::Span;
+use model::BoundsResult;
 use model::DecodeResult;
 use model::RunResult;
 use model::WriteResult;
@@ -124,4 +126,12 @@ pub extern "C" fn zwailmoor_update(
     ensures request { λ r. ⌜ Request-one-met (lend (now (numbers .entry)) (now (ends .entry)) word) (now (packed .entry)) (change list number add) (now (kept .entry)) (now (count .entry)) (updated r (now (numbers .exit)) (now (ends .exit)) (now (kept .exit)) (now (count .exit))) ⌝ }
 {
     update::update(numbers, ends, word, packed, list, number, add, kept, count)
+}
+
+// The most members, moves and bytes, from the ends and an expression alone.
+#[no_mangle]
+pub extern "C" fn zwailmoor_bounds(ends: &[u32], packed: &[u8]) -> BoundsResult
+    ensures { λ r. ⌜ bounded r ≡ bounds (now (ends .entry)) (now (packed .entry)) ⌝ }
+{
+    bounds::bounds(ends, packed)
 }

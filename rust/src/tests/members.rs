@@ -76,6 +76,61 @@ fn an_empty_set() {
 }
 
 #[test]
+fn the_room_of_a_page() {
+    // Of 7, 5, 5 and 6 numbers.
+    let lists = lent(&[FIRST, SECOND, THIRD, FOURTH]);
+    for (row, most) in [
+        (&[0][..], 7),
+        (&[1], 5),
+        (&[130, 0, 1], 12),
+        (&[132, 0, 1, 2, 3], 23),
+        (&[194, 0, 1], 5),
+        (&[194, 1, 0], 5),
+        (&[64, 0, 1], 7),
+        (&[64, 1, 0], 5),
+        (&[64, 194, 130, 0, 1, 2, 3], 5),
+        // Counted at four leaves it would be 28, but there are 23 numbers.
+        (&[132, 0, 0, 0, 0], 23),
+    ] {
+        let packed = packed(row);
+        let room = |page| drawing(&lists, &packed, 0, page).unwrap().page();
+        // One more than the members, for finished.
+        for (page, expected) in [
+            (0, 1),
+            (1, 1),
+            (2, 2),
+            (most, most),
+            (most + 1, most + 1),
+            (most + 2, most + 1),
+            (usize::MAX, most + 1),
+        ] {
+            assert_eq!(room(page), expected, "page {page} of {row:?}");
+        }
+    }
+    assert_eq!(drawing(&lent(&[&[]]), &[0x00], 0, 9).unwrap().page(), 1);
+}
+
+/// The run's number in the run's order, also where the bounds are refused for another.
+#[test]
+fn refused_by_the_run() {
+    let refused = |numbers: &[u32], ends: &[u32], word, packed: &[u8], bookmark| {
+        members(numbers, ends, word, packed, bookmark, usize::MAX).err()
+    };
+    assert_eq!(refused(&[5, 5], &[2], ALL_DELIVERED, &[], 0), Some(Refusal::NotAscending));
+    assert_eq!(refused(&[5], &[1], 0, &[], 0), Some(Refusal::BadEnds));
+    assert_eq!(refused(&[5], &[1, 0], ALL_DELIVERED, &[], 0), Some(Refusal::BadEnds));
+    assert_eq!(refused(&[], &[0], 0, &[0x00, 0x00], 0), Some(Refusal::ListNotDelivered));
+    assert_eq!(refused(&[5], &[1], ALL_DELIVERED, &[0x01], TOP + 1), Some(Refusal::LeftOver));
+    // The bounds are not: an end passes the row, which they do not have.
+    assert_eq!(refused(&[], &[65_535], ALL_DELIVERED, &[0x00], 0), Some(Refusal::BadEnds));
+    assert_eq!(refused(&[], &[0], 0, &[0x00], 0), Some(Refusal::ListNotDelivered));
+    assert_eq!(
+        refused(&[5], &[1], ALL_DELIVERED, &[0x00], TOP + 1),
+        Some(Refusal::BadBookmark)
+    );
+}
+
+#[test]
 fn bad_input_is_refused_at_once() {
     let Lists { numbers, ends } = lent(&[FIRST]);
     let list = packed(&[0]);

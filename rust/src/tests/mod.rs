@@ -1,5 +1,6 @@
-//! The papers' small inputs and examples, lists that were not delivered, the iterator, and changes.
+//! The papers' small inputs and examples, lists that were not delivered, bounds, the iterator, and changes.
 
+mod bounds;
 mod delivered;
 mod members;
 mod paper;

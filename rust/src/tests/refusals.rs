@@ -6,10 +6,10 @@ use crate::{
     Refusal, ALL_DELIVERED,
 };
 
-const DEPTH_13: [u8; 9] = [0x84, 0x21, 0x08, 0x42, 0x10, 0x84, 0x21, 0x00, 0x00];
+pub(super) const DEPTH_13: [u8; 9] = [0x84, 0x21, 0x08, 0x42, 0x10, 0x84, 0x21, 0x00, 0x00];
 
 /// A union of 8: five unions of 8 times list 0, of which the last has so many, and three times list 0.
-fn wide_row(last: u8) -> Vec<u8> {
+pub(super) fn wide_row(last: u8) -> Vec<u8> {
     let mut row = vec![136];
     for members in [8, 8, 8, 8, last] {
         row.push(128 + members);
@@ -17,6 +17,18 @@ fn wide_row(last: u8) -> Vec<u8> {
     }
     row.extend([0; 3]);
     row
+}
+
+/// The row of 49 nodes packed, bit by bit: 10 111 for a union of 8, 00 00000 for a list.
+pub(super) fn wide_packed() -> Vec<u8> {
+    let bits: String = wide_row(8)
+        .iter()
+        .map(|node| if *node == 0 { "0000000" } else { "10111" })
+        .collect();
+    let bits = format!("{bits:0<width$}", width = bits.len().next_multiple_of(8));
+    (0..bits.len() / 8)
+        .map(|i| u8::from_str_radix(&bits[8 * i..][..8], 2).unwrap())
+        .collect()
 }
 
 fn unpack(bytes: &[u8], lists: usize) -> Result<usize, Refusal> {
@@ -85,16 +97,7 @@ fn expressions() {
 
 #[test]
 fn a_49th_node_packed() {
-    // The same as the row of 49 nodes, bit by bit: 10 111 for each union of 8, 00 00000 for each list.
-    let bits: String = wide_row(8)
-        .iter()
-        .map(|node| if *node == 0 { "0000000" } else { "10111" })
-        .collect();
-    let bits = format!("{bits:0<width$}", width = bits.len().next_multiple_of(8));
-    let bytes: Vec<u8> = (0..bits.len() / 8)
-        .map(|i| u8::from_str_radix(&bits[8 * i..][..8], 2).unwrap())
-        .collect();
-    assert_eq!(unpack(&bytes, 1), Err(Refusal::TooManyNodes));
+    assert_eq!(unpack(&wide_packed(), 1), Err(Refusal::TooManyNodes));
 }
 
 #[test]

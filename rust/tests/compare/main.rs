@@ -3,6 +3,7 @@
 //!
 //! ZWAILMOOR_SEED and ZWAILMOOR_CASES (in decimal) change the seed and how many cases each call is given.
 
+mod bounds;
 mod deliveries;
 mod evaluator;
 mod expressions;
@@ -28,6 +29,7 @@ fn every_refusal_belongs_to_a_call() {
         deliveries::ENCODE_REFUSALS,
         moves::UPGRADE_REFUSALS,
         moves::DOWNGRADE_REFUSALS,
+        bounds::REFUSALS,
         runs::REFUSALS,
         updates::REFUSALS,
     ];

@@ -39,13 +39,13 @@ fn bookmark(random: &mut Random) -> u64 {
     }
 }
 
-fn begin(random: &mut Random) -> Begin {
+pub fn begin(random: &mut Random) -> Begin {
     Begin {
         bookmark: bookmark(random),
     }
 }
 
-fn calls(random: &mut Random, numbers: &[u32]) -> (Vec<u8>, Vec<u32>) {
+pub fn calls(random: &mut Random, numbers: &[u32]) -> (Vec<u8>, Vec<u32>) {
     let count = if random.one_in(20) {
         random.between(20, 60)
     } else {

@@ -24,7 +24,8 @@ use Rattle.fields.proofs.Puts.{bytes-length}
 use Rattle.lists.proofs.Spans.{counts}
 use Rattle.forms.specs.Packing.{row-bits}
 use Rattle.forms.proofs.Nodes.{row-few}
-use Rattle.forms.proofs.Whole.{of-read, Handed, handed, sends-refusal, sends-short, sends-all, pack-wrong, pack-on, packed-of, put-filled}
+use Rattle.expression.proofs.Handed.{of-read, Handed, handed}
+use Rattle.forms.proofs.Whole.{sends-refusal, sends-short, sends-all, pack-wrong, pack-on, packed-of, put-filled}
 use Rattle.forms.proofs.pack_expression.Statement.{statement}
 use Rattle.forms.proofs.pack_expression.Tie as tie
 

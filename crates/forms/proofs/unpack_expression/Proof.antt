@@ -19,7 +19,8 @@ use Rattle.model.specs.Calls.{written-refused, written}
 use Rattle.model.proofs.Accepted.{packed-reads}
 use Rattle.model.proofs.Shape.{row-long}
 use Rattle.fields.specs.Rows.{lay}
-use Rattle.forms.proofs.Whole.{of-read, Handed, handed, sends-refusal, sends-short, sends-all, unpack-wrong, unpack-on}
+use Rattle.expression.proofs.Handed.{of-read, Handed, handed}
+use Rattle.forms.proofs.Whole.{sends-refusal, sends-short, sends-all, unpack-wrong, unpack-on}
 use Rattle.forms.proofs.unpack_expression.Statement.{statement}
 use Rattle.forms.proofs.unpack_expression.Tie as tie
 

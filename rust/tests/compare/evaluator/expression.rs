@@ -156,6 +156,15 @@ impl Tree {
         }
     }
 
+    /// The list of each leaf, in expression order.
+    pub fn leaves(&self) -> Vec<usize> {
+        let list = |kind| match kind {
+            Kind::List(list) => Some(list),
+            _ => None,
+        };
+        self.nodes().into_iter().filter_map(list).collect()
+    }
+
     /// The node and all below it, each node before its members.
     fn nodes(&self) -> Vec<Kind> {
         let (kind, members): (Kind, Vec<&Tree>) = match self {

@@ -4,6 +4,7 @@
 //! Every function answers what the paper sends back: the elements written, or the refusal's number.
 
 pub mod bits;
+pub mod bounds;
 pub mod delivery;
 pub mod expression;
 pub mod lists;

@@ -1,5 +1,6 @@
 //! The evaluator alone, on the papers' own bytes: it is what the engine is held against.
 
+use super::bounds::{bounds, Bounds};
 use super::delivery::{decode, downgrade, encode, stored, upgrade, Form};
 use super::expression::{pack, unpack};
 use super::lists::{accepted, delivered, lent, part, Lists};
@@ -90,4 +91,38 @@ fn changes() {
     };
     assert_eq!([0, 1, 2].map(|list| refused(&[0x00], list)), [Some(17), Some(18), Some(4)]);
     assert_eq!([0, 1, 2].map(|list| refused(&[0x02], list)), [Some(18); 3]);
+}
+
+#[test]
+fn how_large() {
+    let of = |ends: &[u32], packed: &[u8]| bounds(ends, packed).map(|most| [most.members, most.moves, most.bytes]);
+    // Lists of 4, 3, 5 and 2: the console's expression, list 2 alone, 0 less 2, and the union and the intersection of 0 and 1.
+    let four = [4, 7, 12, 14];
+    for (packed, members, moves) in [
+        (&[0x73, 0x10, 0x00, 0x41, 0x03][..], 5, 14),
+        (&[0x04], 5, 5),
+        (&[0x40, 0x02], 4, 9),
+        (&[0x88, 0x00, 0x20], 7, 7),
+        (&[0xC8, 0x00, 0x20], 3, 7),
+    ] {
+        assert_eq!(of(&four, packed), Ok([members, moves, 68]));
+    }
+    // 6 + 17 bits; 32 more; 5 and 32 more.
+    assert_eq!(
+        [0, 1, 2].map(|end| of(&[end], &[0x00]).map(|most| most[2])),
+        [Ok(3), Ok(7), Ok(12)]
+    );
+    let most = Bounds {
+        members: 65_535,
+        moves: 65_535,
+        bytes: 8_388_569,
+    };
+    let all: Vec<u32> = (1..=32).map(|list| 65_535 * list).collect();
+    assert_eq!(bounds(&all, &[0x3E]), Ok(most));
+    assert_eq!([of(&[], &[]), of(&[0; 33], &[])], [Err(7), Err(7)]);
+    assert_eq!([of(&[2, 1], &[]), of(&[65_536], &[])], [Err(10), Err(10)]);
+    assert_eq!(
+        [of(&[2], &[]), of(&[2], &[0x02]), of(&[2], &[0x01])],
+        [Err(1), Err(4), Err(5)]
+    );
 }

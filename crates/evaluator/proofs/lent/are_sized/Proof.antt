@@ -5,10 +5,10 @@ use Rattle.evaluator.proofs.lent.are_sized.Statement.{statement}
 use Rattle.evaluator.proofs.lent.are_sized.Tie as tie
 
 abbrev Inv-loop : tie.InvT-loop
-Inv-loop numbers lists k₀ k-end k = k ≤ lists .count
+Inv-loop row lists k₀ k-end k = k ≤ lists .count
 
 abbrev μ-loop : tie.MeasureT-loop
-μ-loop numbers lists k₀ k-end k = lists .count - k
+μ-loop row lists k₀ k-end k = lists .count - k
 
 loop-holds : tie.Need-loop-holds Inv-loop μ-loop
 loop-holds c = search needs

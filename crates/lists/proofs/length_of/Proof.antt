@@ -2,8 +2,8 @@
 use native.Mathlib.Numerals.{add-one}
 use native.Mathlib.Omega.{arith}
 use borrow.Author.Needs.{needs}
-use Rattle.update.proofs.length_of.Statement.{statement}
-use Rattle.update.proofs.length_of.Tie as tie
+use Rattle.lists.proofs.length_of.Statement.{statement}
+use Rattle.lists.proofs.length_of.Tie as tie
 
 add-start-of : tie.Need-add-start-of
 add-start-of c = search needs

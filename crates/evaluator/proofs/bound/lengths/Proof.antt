@@ -1,14 +1,14 @@
 -- Safe and ending: the nodes still to be measured grow fewer.
 use Prim.Native.Nat.{_-_, _≤_}
 use borrow.Author.Needs.{needs}
-use Rattle.evaluator.proofs.lengths.Statement.{statement}
-use Rattle.evaluator.proofs.lengths.Tie as tie
+use Rattle.evaluator.proofs.bound.lengths.Statement.{statement}
+use Rattle.evaluator.proofs.bound.lengths.Tie as tie
 
 abbrev Inv-loop : tie.InvT-loop
-Inv-loop numbers lists packed found₀ row count i₀ found i = (i ≤ count) × (count ≤ 48)
+Inv-loop row lists packed found₀ nodes count i₀ found i = (i ≤ count) × (count ≤ 48)
 
 abbrev μ-loop : tie.MeasureT-loop
-μ-loop numbers lists packed found₀ row count i₀ found i = count - i
+μ-loop row lists packed found₀ nodes count i₀ found i = count - i
 
 ends-refused-requires : tie.Need-ends-refused-requires Inv-loop μ-loop
 ends-refused-requires c κs = search needs
