@@ -69,7 +69,7 @@ fn least_of(row: &[u32]) -> u32
     found
 }
 
-// The node of a byte that is one.
+// The node of a byte that is one; of any other nothing is said, and none is asked.
 fn known(b: u8) -> Node
     ensures { λ r. ⌜ ((n : Node) → node-of b ≡ accepted n → r ≡ n) ⌝ }
 {

@@ -12,7 +12,7 @@ use lib.ListN.{length, getD, take, drop, replicate, length-map, getD-replicate, 
 use lib.Seq.{take-append-seam}
 use Rattle.model.specs.declared.Reply.{Reply}
 use Rattle.model.specs.declared.Reply.the-variants.{Member, Finished}
-use Rattle.model.specs.Outcome.{Outcome, refused, accepted, number-of, Sent}
+use Rattle.model.specs.Outcome.{accepted, number-of, Sent}
 use Rattle.model.specs.Lists.{top, Numbers, count-holds, delivered, word-holds, Lent, lend, lists-of, or-empty, span-of}
 use Rattle.model.specs.Expression.{Tree, leaf, difference, union, intersection, Members, one, more, size}
 use Rattle.model.specs.Sets.{among, all-numbers, members}
@@ -23,7 +23,7 @@ use Rattle.model.specs.Forms.{there, read-packed}
 use Rattle.model.specs.Delivery.{supplied-numbers}
 use Rattle.model.specs.Calls.{decode-delivery, encode-delivery, run-call, run-size}
 use Rattle.model.specs.Demands.{lengths, lengths-all, sum, Named, Named-all, left-lent, ran-all}
-use Rattle.model.specs.RequestTwo.{refused-by, every-bit, all-came, all-came-each}
+use Rattle.model.specs.RequestTwo.{every-bit, all-came, all-came-each}
 use Rattle.model.specs.Bounds.{lengths-from, ends-rise, most-members, sum-of-most, least-of-most, most-moves, most-bytes, bounds}
 use Rattle.model.specs.RequestFour.{members-said, moves-said, bytes-said, member-replies, replies-made, moves-made, bytes-made, Rises-at, Widest, each, Is-least, Rule, Reached, Enough, Request-four}
 use Rattle.model.proofs.Order.{or-right, or-true, not-both, min-case, Up}

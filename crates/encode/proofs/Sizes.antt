@@ -7,18 +7,18 @@ use native.Mathlib.Nat.{mul-suc, mul-le-mul-left, mul-le-mul-right}
 use native.Mathlib.Numerals.{add-one}
 use native.Mathlib.Omega.{arith}
 use lib.Dec.{ltb}
-use lib.ListN.{length, getD, drop, length-append}
+use lib.ListN.{length, getD, drop}
 use borrow.Author.Tests.{ltb-true}
 use Rattle.model.specs.Outcome.{accepted}
 use Rattle.model.specs.Lists.{top, Numbers, rises, ascending}
 use Rattle.model.specs.Fields.{field}
 use Rattle.model.specs.Delivery
-use Rattle.model.specs.Delivery.{largest-gap, width, gap-bits, body-bits, undelivered, came, supplied-numbers, bit-and-count, by-bit, list-size}
+use Rattle.model.specs.Delivery.{largest-gap, width, gap-bits, body-bits, came, supplied-numbers, bit-and-count, by-bit, list-size}
 use Rattle.model.proofs.Order.{and-true}
 use Rattle.model.proofs.Accepted.{required, accepted-same}
 use Rattle.model.proofs.Bits.{field-length}
 use Rattle.model.proofs.Deliveries.{width-is}
-use Rattle.model.proofs.Sizes.{gaps-width, list-size-is as size-is}
+use Rattle.model.proofs.Sizes.{gaps-width, list-size-is as size-is, came-head, undelivered-bits}
 use Rattle.lists.specs.Rise.{largest, rise}
 use Rattle.fields.proofs.Fields.{field-join}
 use Rattle.encode.specs.Measures.{as-supplied, list-bits, gap-width}
@@ -83,25 +83,19 @@ bits-more [] h f = absurd (omega arith)
 bits-more (x ∷ []) h f = absurd (omega arith)
 bits-more (x ∷ y ∷ l) h f = bits-came (x ∷ y ∷ l) f
 
-pub bits-undelivered : list-bits undelivered ≡ field 1 0
-unfolding Delivery.list-bits body-bits bit-and-count supplied-numbers
-bits-undelivered = append-nil (field 1 0)
-
 width-same : (l : List ℕ) → gaps-width l ≡ gap-width l
 unfolding gaps-width gap-width largest
 width-same [] = refl
 width-same (x ∷ l) = refl
 
 pub list-size-is : (l : List ℕ) → length (list-bits (came l)) ≡ list-size 17 (length l) (gap-width l)
-unfolding bit-and-count supplied-numbers
-list-size-is l =
-    let head : length (field 1 1 ++ field 16 (length l)) ≡ 17 = omega (arith, length-append (field 1 1) (field 16 (length l)), field-length 1 1, field-length 16 (length l)) in
-    size-is by-bit (came l) ∙ ap₂ (λ (n w : ℕ). list-size n (length l) w) head (width-same l)
+unfolding supplied-numbers
+list-size-is l = size-is by-bit (came l) ∙ ap₂ (λ (n w : ℕ). list-size n (length l) w) (came-head l) (width-same l)
 
 -- of one that came or did not
 pub supplied-size : (b : Bool) (l : List ℕ) → length (list-bits (as-supplied b l)) ≡ cond b (list-size 17 (length l) (gap-width l)) 1
 supplied-size true l = list-size-is l
-supplied-size false l = ap length bits-undelivered ∙ field-length 1 0
+supplied-size false l = ap length undelivered-bits ∙ field-length 1 0
 
 pub supplied-small : (b : Bool) (l : List ℕ) → length l ≤ 65535 → gap-width l ≤ 32 → length (list-bits (as-supplied b l)) ≤ 4194304
 unfolding list-size

@@ -1,12 +1,12 @@
--- Writing a delivery whole: what each outcome of the tests hands back, how long a delivery is, and that the three pieces that
--- are put make it. Assumes nothing.
-use mathlib.Core.Path.{_≡_, _∙_}
+-- Writing a delivery whole: what each outcome of the tests hands back, and that the three pieces that are put make it. Assumes
+-- nothing.
+use mathlib.Core.Path.{_≡_}
 use mathlib.Core.Bool.{true, false, _&&_}
 use mathlib.Core.List.{List, [], _∷_, _++_, flatMap}
-use Prim.Native.Nat.{ℕ, suc, _+_, _-_, _*_, _/_, _≤_, _<_}
+use Prim.Native.Nat.{ℕ, suc, _+_, _-_, _*_, _≤_, _<_}
 use native.Mathlib.Omega.{arith}
 use lib.Dec.{leb}
-use lib.ListN.{length, drop, length-append, length-take}
+use lib.ListN.{length, drop, length-take}
 use borrow.Author.Tests.{le-leb, lt-leb, leb-true}
 use Rattle.model.specs.Outcome.{over, sent}
 use Rattle.model.specs.Lists.{Numbers, all-ascending, part, lists-from, count-holds, ends-hold, delivered, word-holds, lend, lists-of}
@@ -15,9 +15,8 @@ use Rattle.model.specs.Delivery.{Supplied, delivery, delivery-in, supplied-from
 use Rattle.model.specs.Calls.{written, stored, encode-delivery}
 use Rattle.model.proofs.Order.{and-true}
 use Rattle.model.proofs.Accepted.{numbers-part}
-use Rattle.model.proofs.Bits.{field-length}
 use Rattle.fields.specs.Positions.{put-bits}
-use Rattle.fields.proofs.Puts.{put-filled, bytes-length}
+use Rattle.fields.proofs.Puts.{put-filled}
 use Rattle.encode.specs.Measures.{as-supplied, lists-bits}
 use Rattle.encode.proofs.Sizes.{gap-width-wide, supplied-small}
 use Rattle.encode.proofs.Rest.{bits-cons}
@@ -74,10 +73,6 @@ module _ (numbers ends : List ℕ) (word : ℕ) (lent : List ℕ) where
         writes h = rw (seven, ten, eleven, le-leb (length row) (length lent) h)
 
 -- ---- the bytes
-
-pub delivery-length : (ss : List Supplied) → length (delivery ss) ≡ (length (lists-bits ss) + 13) / 8
-unfolding delivery delivery-in
-delivery-length ss = bytes-length (field 6 (length ss) ++ lists-bits ss) ∙ omega (arith, length-append (field 6 (length ss)) (lists-bits ss), field-length 6 (length ss))
 
 -- the number of lists, the lists, and the fill
 pub delivery-put : (s : List ℕ) (ss : List Supplied) (k : ℕ) {a b c : List ℕ} {next : ℕ} → Bytes s → length (delivery ss) ≤ length s

@@ -3,7 +3,7 @@
 use mathlib.Core.Path.{_≡_, refl, sym, ap, ap₂, _∙_, subst}
 use mathlib.Core.Bool.{Bool, false}
 use mathlib.Core.List.{List, [], _∷_, _++_, append-assoc, append-nil}
-use Prim.Native.Nat.{ℕ, zero, suc, _+_, _-_, _*_, _/_, _%_, _^_, _≤_, _<_}
+use Prim.Native.Nat.{ℕ, zero, suc, _+_, _*_, _/_, _%_, _^_, _≤_, _<_}
 use native.Mathlib.Nat.{zero-div, mod-lt, zero-lt-suc, lt-of-lt-of-le}
 use native.Mathlib.Omega.{arith}
 use lib.Pow.{split, pow-mono}
@@ -11,7 +11,7 @@ use lib.ListN.{length, take, drop, set, replicate, length-append, length-replica
 use lib.Dec.{eqb}
 use lib.Seq.{set-split, getD-drop}
 use Rattle.model.specs.Fields.{Bytes, field, bits, value, fill, bytes}
-use Rattle.model.proofs.Bits.{field-length, field-high, field-value, filled, fill-only, bytes-are, bits-length, bits-append}
+use Rattle.model.proofs.Bits.{field-length, field-high, field-value, filled, fill-only, bytes-are, bits-length, bytes-length, bits-append}
 use Rattle.model.proofs.Accepted.{value-lt}
 use Rattle.fields.specs.Rows.{lay}
 use Rattle.fields.specs.Positions.{put-bits}
@@ -134,12 +134,6 @@ both-small (b ∷ s) t hs ht (suc i) = both-small s t (λ j. hs (suc j)) ht i
 
 drop-small : (n : ℕ) (s : List ℕ) → Bytes s → Bytes (drop n s)
 drop-small n s h i = rw (getD-drop n s i 0) (h (n + i))
-
--- how many bytes bits fill
-pub bytes-length : (bs : List Bool) → length (bytes bs) ≡ (length bs + 7) / 8
-bytes-length bs =
-    let f = filled bs in
-    omega (arith, f .few, ap length (f .are), bits-length (bytes bs), length-append bs (replicate (f .zeros-behind) false), length-replicate (f .zeros-behind) false)
 
 pub put-whole : (s : List ℕ) (bs : List Bool) (k : ℕ) → Bytes s → length bs + k ≡ 8 * length (bytes bs) → length (bytes bs) ≤ length s
     → put-bits s 0 (bs ++ field k 0) ≡ bytes bs ++ drop (length (bytes bs)) s

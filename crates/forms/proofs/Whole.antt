@@ -17,8 +17,9 @@ use Rattle.model.specs.Fields.{Bytes, field, fill, bytes}
 use Rattle.model.specs.Forms.{nodes, row, packed, Leaf-test, there, read-row, read-packed}
 use Rattle.model.specs.Calls.{written-refused, written, unpack-expression, pack-expression}
 use Rattle.model.proofs.Accepted.{Narrow}
+use Rattle.model.proofs.Bits.{bytes-length}
 use Rattle.fields.specs.Positions.{put-bits}
-use Rattle.fields.proofs.Puts.{put-append, put-whole, bytes-length}
+use Rattle.fields.proofs.Puts.{put-append, put-whole}
 use Rattle.expression.proofs.Handed.{of-read, Holds}
 use Rattle.forms.specs.Packing.{row-bits}
 use Rattle.forms.proofs.Nodes.{tree-packed}

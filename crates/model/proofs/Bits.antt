@@ -150,6 +150,12 @@ unfolding bits
 bits-length [] = refl
 bits-length (b ∷ bs) = omega (arith, length-append (field 8 b) (bits bs), field-length 8 b, bits-length bs)
 
+-- how many bytes bits fill
+pub bytes-length : (bs : List Bool) → length (bytes bs) ≡ (length bs + 7) / 8
+bytes-length bs =
+    let f = filled bs in
+    omega (arith, f .few, ap length (f .are), bits-length (bytes bs), length-append bs (replicate (f .zeros-behind) false), length-replicate (f .zeros-behind) false)
+
 pub bits-append : (s t : List ℕ) → bits (s ++ t) ≡ bits s ++ bits t
 unfolding bits
 bits-append [] t = refl

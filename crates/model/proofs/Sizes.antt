@@ -2,15 +2,15 @@
 -- which is at most 32. Assumes nothing.
 use mathlib.Core.Path.{_≡_, sym, ap, _∙_}
 use mathlib.Core.Bool.{Bool}
-use mathlib.Core.List.{List, [], _∷_, _++_}
-use Prim.Native.Nat.{ℕ, suc, _+_, _-_, _*_, _≤_}
+use mathlib.Core.List.{List, [], _∷_, _++_, append-nil, flatMap}
+use Prim.Native.Nat.{ℕ, suc, _+_, _-_, _*_, _/_, _≤_}
 use native.Mathlib.Nat.{mul-suc, mul-zero, mul-le-mul-right}
 use native.Mathlib.Omega.{arith}
 use lib.ListN.{length, length-append}
 use Rattle.model.specs.Fields.{field}
-use Rattle.model.specs.Delivery.{largest-gap, width, gap-bits, body-bits, Form, list-bits, list-size}
+use Rattle.model.specs.Delivery.{largest-gap, width, gap-bits, body-bits, Form, Supplied, undelivered, came, supplied-numbers, bit-and-count, by-bit, list-bits, list-size, delivery-in, delivery}
 use Rattle.model.proofs.Order.{Up}
-use Rattle.model.proofs.Bits.{field-length}
+use Rattle.model.proofs.Bits.{field-length, bytes-length}
 use Rattle.model.proofs.Deliveries.{width-is, width-small}
 
 pub gap-bits-length : (w last : ℕ) (xs : List ℕ) → length (gap-bits w last xs) ≡ w * length xs
@@ -73,3 +73,22 @@ module _ {A : Type 0} (form : Form A) (a : A) where
       width-most : (l : List ℕ) → Up 0 l → gaps-width l ≤ 32
       width-most [] u = width-is 0 (omega arith) .least 32 (omega arith) (omega arith)
       width-most (x ∷ xs) u = width-small x xs (u .2) .2
+
+-- ---- in Two's form
+
+-- a bit and 16 bits of count stand ahead of the numbers of a list that came
+pub came-head : (l : List ℕ) → length (bit-and-count (came l)) ≡ 17
+unfolding bit-and-count
+came-head l = omega (arith, length-append (field 1 1) (field 16 (length l)), field-length 1 1, field-length 16 (length l))
+
+-- one that did not come has its bit alone
+pub undelivered-bits : list-bits by-bit undelivered ≡ field 1 0
+unfolding list-bits body-bits bit-and-count supplied-numbers
+undelivered-bits = append-nil (field 1 0)
+
+-- 6 bits of their number ahead of the lists, and up to a whole byte
+pub delivery-length : (ss : List Supplied) → length (delivery ss) ≡ (length (flatMap (list-bits by-bit) ss) + 13) / 8
+unfolding delivery delivery-in
+delivery-length ss =
+    let lists : List Bool = flatMap (list-bits by-bit) ss in
+    bytes-length (field 6 (length ss) ++ lists) ∙ omega (arith, length-append (field 6 (length ss)) lists, field-length 6 (length ss))

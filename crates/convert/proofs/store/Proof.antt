@@ -13,9 +13,9 @@ use Rattle.model.specs.declared.WriteResult.{WriteResult}
 use Rattle.model.specs.Outcome.{over, sent}
 use Rattle.model.specs.Fields.{field, bits, bytes}
 use Rattle.model.specs.Calls.{written, written-refused, stored}
-use Rattle.model.proofs.Bits.{field-length}
+use Rattle.model.proofs.Bits.{field-length, bytes-length}
 use Rattle.fields.specs.Positions.{put-bits}
-use Rattle.fields.proofs.Puts.{bytes-length, put-filled}
+use Rattle.fields.proofs.Puts.{put-filled}
 use Rattle.convert.specs.Pieces.{pieces, Rising, store-pieces}
 use Rattle.convert.proofs.store.Statement.{statement}
 use Rattle.convert.proofs.store.Tie as tie

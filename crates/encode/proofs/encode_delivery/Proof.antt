@@ -16,12 +16,13 @@ use Rattle.model.specs.Delivery.{Supplied, delivery, supplied}
 use Rattle.model.specs.Calls.{written-refused, written}
 use Rattle.model.proofs.Laid.{lists-length}
 use Rattle.model.proofs.Word.{supplied-length}
+use Rattle.model.proofs.Sizes.{delivery-length}
 use Rattle.lists.proofs.Spans.{counts}
 use Rattle.fields.specs.Rows.{lay}
 use Rattle.fields.specs.Positions.{put-bits}
 use Rattle.encode.specs.declared.Measure.{Measure}
 use Rattle.encode.specs.Measures.{lists-bits, gap-width, measured-by, measured}
-use Rattle.encode.proofs.Whole.{lists-small, refuses-7, refuses-10, refuses-11, refuses-6, writes, delivery-length, delivery-put}
+use Rattle.encode.proofs.Whole.{lists-small, refuses-7, refuses-10, refuses-11, refuses-6, writes, delivery-put}
 use Rattle.model.proofs.Order.{and-true}
 use Rattle.encode.proofs.encode_delivery.Statement.{statement}
 use Rattle.encode.proofs.encode_delivery.Tie as tie

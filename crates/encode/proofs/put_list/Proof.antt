@@ -9,9 +9,9 @@ use lib.ListN.{length}
 use Rattle.model.specs.Fields.{field}
 use Rattle.model.specs.Delivery.{came}
 use Rattle.model.proofs.Bits.{field-length}
+use Rattle.model.proofs.Sizes.{undelivered-bits}
 use Rattle.fields.specs.Positions.{put-bits}
 use Rattle.encode.specs.Measures.{as-supplied, list-bits}
-use Rattle.encode.proofs.Sizes.{bits-undelivered}
 use Rattle.encode.proofs.put_list.Statement.{statement}
 use Rattle.encode.proofs.put_list.Tie as tie
 
@@ -20,7 +20,7 @@ whole : (c : tie.Then1) → let args = c .before .before .before .args in list-b
 whole c = ap (λ (b : Bool). list-bits (as-supplied b (c .before .before .before .args .list .now))) (c .if1 .taken)
 
 alone : (c : tie.Else1) → let args = c .before .before .before .args in list-bits (as-supplied (args .delivered) (args .list .now)) ≡ field 1 0
-alone c = ap (λ (b : Bool). list-bits (as-supplied b (c .before .before .before .args .list .now))) (c .if1 .left) ∙ bits-undelivered
+alone c = ap (λ (b : Bool). list-bits (as-supplied b (c .before .before .before .args .list .now))) (c .if1 .left) ∙ undelivered-bits
 
 put-delivered-requires : tie.Need-put-delivered-requires
 put-delivered-requires c κs =

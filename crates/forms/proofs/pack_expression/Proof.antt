@@ -19,8 +19,8 @@ use Rattle.model.specs.Fields.{field, bytes}
 use Rattle.model.specs.Forms.{row, packed, there, read-row}
 use Rattle.model.specs.Calls.{written-refused, written}
 use Rattle.model.proofs.Accepted.{there-narrow, row-reads}
+use Rattle.model.proofs.Bits.{bytes-length}
 use Rattle.fields.specs.Positions.{put-bits}
-use Rattle.fields.proofs.Puts.{bytes-length}
 use Rattle.lists.proofs.Spans.{counts}
 use Rattle.forms.specs.Packing.{row-bits}
 use Rattle.forms.proofs.Nodes.{row-few}
