@@ -115,8 +115,11 @@ typedef struct zwailmoor_span {
 } zwailmoor_span;
 
 /*
- * What a run hands back: how far its readers moved in all; each node's place in expression order, 0 at operators and unused
- * nodes; and the bookmark to go on from.
+ * What a run hands back: how many moves its readers made in all; in expression order each node's place, which is how many numbers
+ * of its list its reader has passed, 0 at operators and unused nodes; and the bookmark to go on from.
+ * A reader that seeks a number first hops: while 64 numbers or more remain from its place and the 64th of them is below that number,
+ * its place grows by 64, which is one move. Then it moves singly, each time one place and one move. So the moves are at most the sum
+ * of the places, and that is at most the moves of zwailmoor_bounds.
  */
 typedef struct zwailmoor_run_result {
     uint32_t number;
@@ -193,7 +196,8 @@ zwailmoor_span zwailmoor_list_span(const uint32_t *numbers, size_t numbers_lengt
  * every list counts as delivered.
  *   - `members`: a list has as many as it is long, a union at most the sum of its nodes', an intersection the least of them, a
  *     difference its first node's. For a single list it is exact.
- *   - `moves`: the lengths of the leaves' lists added up, a list once for each leaf it stands at. No run makes more.
+ *   - `moves`: the lengths of the leaves' lists added up, a list once for each leaf it stands at. No run makes more; where readers
+ *     hop, a run makes far fewer.
  *   - `bytes`: the most that a delivery of lists with these ends can fill, whether the expression names them or not. They are all
  *     filled where every list was delivered, and each of two numbers or more needs the width of 32.
  * To reserve by it: `members` + 1 replies, and as many codes and arguments, are enough for a run of next calls to draw everything

@@ -1,10 +1,11 @@
 //! Finds the engine's archive and has it linked.
 
 use std::env;
-use std::path::PathBuf;
-use std::process::exit;
+use std::path::{Path, PathBuf};
+use std::process::{exit, Command};
 
 const FOLDER_VARIABLE: &str = "ZWAILMOOR_LIB_DIR";
+const BEFORE_VARIABLE: &str = "ZWAILMOOR_BEFORE_DIR";
 const ARCHIVE: &str = "libzwailmoor.a";
 
 fn main() {
@@ -21,6 +22,7 @@ fn main() {
     }
     // For the tests, which link the C example.
     println!("cargo:rustc-env=ZWAILMOOR_ARCHIVE={}", archive.display());
+    let folder = beside_before(&archive).unwrap_or(folder);
     println!("cargo:rustc-link-search=native={}", folder.display());
     println!("cargo:rustc-link-lib=static=zwailmoor");
     describe_for_benches();
@@ -39,7 +41,7 @@ fn folder() -> PathBuf {
 /// For the benchmarks alone: the compiler's version, and which peers `cc` can compile and link against. The library itself
 /// links neither; the benchmark's own `#[link]` does.
 fn describe_for_benches() {
-    use std::process::{Command, Stdio};
+    use std::process::Stdio;
     let variable = |name: &str| env::var(name).ok();
     let rustc = Command::new(variable("RUSTC").unwrap_or("rustc".into()))
         .arg("--version")
@@ -70,4 +72,53 @@ fn describe_for_benches() {
             println!("cargo:rustc-cfg=peer_{name}");
         }
     }
+}
+
+/// For the benchmarks alone: the engine of an earlier landing, to be timed beside this one. Both are copied, and the copies linked
+/// into one program; answers their folder. Only the benchmark's own `#[link]` takes the earlier one.
+fn beside_before(archive: &Path) -> Option<PathBuf> {
+    println!("cargo:rustc-check-cfg=cfg(before)");
+    println!("cargo:rerun-if-env-changed={BEFORE_VARIABLE}");
+    let before = Path::new(&env::var_os(BEFORE_VARIABLE)?).join(ARCHIVE);
+    println!("cargo:rerun-if-changed={}", before.display());
+    let copies = PathBuf::from(env::var_os("OUT_DIR").expect("cargo names the folder for what is built"));
+    let renamed = names(&before).and_then(|names| copy(&before, &copies.join("libzwailmoor_before.a"), &names));
+    if let Err(why) = renamed.and_then(|()| copy(archive, &copies.join(ARCHIVE), "")) {
+        eprintln!("{BEFORE_VARIABLE}: {} cannot be timed beside: {why}", before.display());
+        exit(1);
+    }
+    println!("cargo:rustc-cfg=before");
+    Some(copies)
+}
+
+/// The names that an archive defines for others.
+fn names(archive: &Path) -> Result<String, String> {
+    output(
+        Command::new("nm")
+            .args(["--defined-only", "--extern-only", "--format=just-symbols"])
+            .arg(archive),
+    )
+}
+
+/// Copies an archive. These of its names get `before_` in front, so that two can be linked into one program. Each function begins a
+/// page: where the linker puts them else, an engine was timed at nine tenths of its own copy.
+fn copy(from: &Path, to: &Path, names: &str) -> Result<(), String> {
+    let mut objcopy = Command::new("objcopy");
+    objcopy.arg("--set-section-alignment=.text.*=4096");
+    // A line that ends with a colon names a file of the archive.
+    for name in names.lines().filter(|line| !line.is_empty() && !line.ends_with(':')) {
+        objcopy.arg(format!("--redefine-sym={name}=before_{name}"));
+    }
+    output(objcopy.arg(from).arg(to)).map(|_| ())
+}
+
+/// What a command prints, or what is wrong.
+fn output(command: &mut Command) -> Result<String, String> {
+    let ran = command
+        .output()
+        .map_err(|why| format!("{}: {why}", command.get_program().display()))?;
+    if !ran.status.success() {
+        return Err(String::from_utf8_lossy(&ran.stderr).trim().to_string());
+    }
+    Ok(String::from_utf8_lossy(&ran.stdout).into_owned())
 }

@@ -74,8 +74,37 @@ fn rows(dice: &mut Dice) -> (Vec<u32>, Vec<u32>, u32) {
     (numbers, ends, word)
 }
 
-fn one_run(dice: &mut Dice, expressions: &[Vec<u8>]) -> u32 {
-    let (numbers, ends, word) = rows(dice);
+/// Up to how far the numbers of the lists below go.
+const FAR: usize = 256;
+
+/// Rows of 8 lists, all delivered, on both sides of the lengths that readers hop over.
+fn far_rows(dice: &mut Dice) -> (Vec<u32>, Vec<u32>, u32) {
+    let base = if dice.below(8) == 0 { u32::MAX - (FAR as u32 - 1) } else { 0 };
+    let (mut numbers, mut ends) = (Vec::new(), Vec::new());
+    for _ in 0..8 {
+        let size = match dice.below(3) {
+            0 => 63 + dice.below(3),
+            1 => 127 + dice.below(3),
+            _ => dice.below(FAR as u64 + 1),
+        };
+        numbers.extend(dice.subset(size as usize, FAR).into_iter().map(|x| base + x));
+        ends.push(numbers.len() as u32);
+    }
+    (numbers, ends, ALL_DELIVERED)
+}
+
+/// Either rows, and how far their numbers go.
+fn any_rows(dice: &mut Dice) -> ((Vec<u32>, Vec<u32>, u32), u64) {
+    if dice.below(8) == 0 {
+        (far_rows(dice), FAR as u64)
+    } else {
+        (rows(dice), 30)
+    }
+}
+
+/// The number that came back, and whether readers hopped.
+fn one_run(dice: &mut Dice, expressions: &[Vec<u8>]) -> (u32, bool) {
+    let ((numbers, ends, word), universe) = any_rows(dice);
     let packed = expressions[dice.below(expressions.len() as u64) as usize].clone();
     let packed = damaged(dice, packed);
     let bookmark = if dice.below(8) == 0 {
@@ -88,7 +117,7 @@ fn one_run(dice: &mut Dice, expressions: &[Vec<u8>]) -> u32 {
     let base = numbers.first().copied().unwrap_or(0);
     let uneven = usize::from(dice.below(16) == 0);
     let arguments: Vec<u32> = (0..calls + uneven)
-        .map(|_| base.saturating_add(dice.below(30) as u32))
+        .map(|_| base.saturating_add(dice.below(universe) as u32))
         .collect();
     let room = (calls + 1).saturating_sub(2 * usize::from(dice.below(16) == 0));
     let (mut a, mut b) = (vec![u64::MAX; room], vec![u64::MAX; room]);
@@ -103,12 +132,12 @@ fn one_run(dice: &mut Dice, expressions: &[Vec<u8>]) -> u32 {
     let case = || format!("{packed:02x?} over {word:08x}, {ends:?} of {numbers:?}");
     assert_eq!(engine, peer, "a run differs: {}", case());
     assert_eq!(a, b, "replies differ: {}", case());
-    engine.err().unwrap_or(0)
+    (engine.err().unwrap_or(0), engine.is_ok_and(|r| r.moves < r.passed()))
 }
 
 /// Free places behind the numbers and the members, or none; sometimes the members are not those of the expression.
 fn one_change(dice: &mut Dice, expressions: &[Vec<u8>]) -> u32 {
-    let (mut numbers, ends, word) = rows(dice);
+    let ((mut numbers, ends, word), universe) = any_rows(dice);
     let packed = expressions[dice.below(expressions.len() as u64) as usize].clone();
     let packed = damaged(dice, packed);
     let drawn = zwailmoor::members(&numbers, &ends, word, &packed, 0, 1000);
@@ -117,7 +146,8 @@ fn one_change(dice: &mut Dice, expressions: &[Vec<u8>]) -> u32 {
     if dice.below(16) == 0 && !members.is_empty() {
         members[0] ^= 1;
     }
-    let number = numbers.first().copied().unwrap_or(0).saturating_add(dice.below(30) as u32);
+    let first = numbers.first().copied().unwrap_or(0);
+    let number = first.saturating_add(dice.below(universe) as u32);
     let change = [Change::Add(number), Change::Remove(number)][dice.below(2) as usize];
     let list = dice.below(9) as usize;
     numbers.resize(numbers.len() + dice.below(3) as usize, 7);
@@ -235,8 +265,11 @@ pub fn demand() {
     let expressions = expressions();
     let (mut runs, mut encodes, mut decodes, mut changes) = (Met::new(), Met::new(), Met::new(), Met::new());
     let (mut upgrades, mut downgrades) = (Met::new(), Met::new());
+    let mut hopped = 0;
     for _ in 0..INPUTS {
-        *runs.entry(one_run(&mut dice, &expressions)).or_default() += 1;
+        let (number, hops) = one_run(&mut dice, &expressions);
+        *runs.entry(number).or_default() += 1;
+        hopped += usize::from(hops);
         let (number, delivery) = one_encode(&mut dice);
         *encodes.entry(number).or_default() += 1;
         *decodes.entry(one_decode(&mut dice, &delivery)).or_default() += 1;
@@ -252,6 +285,8 @@ pub fn demand() {
         "- the engine and the hand-written peers agree on {INPUTS} small inputs of each call, good and damaged. Numbers met:"
     );
     report("run", &runs, &[0, 1, 2, 3, 4, 5, 7, 10, 11, 12, 13, 18]);
+    assert!(hopped * 50 > INPUTS, "readers hopped in {hopped} runs alone");
+    println!("  in {hopped} runs readers hopped");
     report("encode", &encodes, &[0, 6, 7, 10, 11]);
     report("decode", &decodes, &[0, 1, 5, 6, 7, 8, 9]);
     report("upgrade", &upgrades, &[0, 1, 5, 6, 7, 8, 9]);

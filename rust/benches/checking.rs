@@ -1,6 +1,6 @@
 //! 100,000 checks over the console's expression, at ascending numbers.
 
-use crate::drawing::Prepared;
+use crate::drawing::{Moves, Prepared};
 use crate::inputs::{self, Case};
 #[cfg(peer_roaring)]
 use crate::peers::croaring;
@@ -44,19 +44,26 @@ fn add<'a>(
     });
 }
 
+/// Every contender's time, and the moves.
+pub struct Checked {
+    pub results: Results,
+    pub moves: Moves,
+}
+
 /// Whether each number asked is a member, by the merges; the engine's replies have to say the same.
-fn expected(case: &Case, prepared: &Prepared) -> Vec<bool> {
+fn expected(case: &Case, prepared: &Prepared) -> (Vec<bool>, Moves) {
     let members = merges::members(&case.tree, &case.lists);
     let expected: Vec<bool> = prepared.arguments.iter().map(|d| members.binary_search(d).is_ok()).collect();
-    let (replies, _) = prepared.verified();
+    let verified = prepared.verified(0);
     assert!(
-        replies
+        verified
+            .replies
             .iter()
             .copied()
             .eq(expected.iter().map(|&yes| if yes { YES } else { NO })),
         "the engine's replies differ"
     );
-    expected
+    (expected, verified.moves())
 }
 
 fn add_btree<'a>(contest: &mut Contest<'a>, case: &'a Case, asked: &'a [u32], expected: &[bool]) {
@@ -78,13 +85,15 @@ fn add_roaring<'a>(contest: &mut Contest<'a>, case: &'a Case, asked: &'a [u32], 
     add(contest, "CRoaring, each expression", asked, expected, in_each);
 }
 
-pub fn run() -> Results {
+pub fn run() -> Checked {
     let (case, asked) = inputs::checking_case();
     let prepared = Prepared::new(&case, vec![CHECK; asked.len()], asked.clone());
-    let expected = expected(&case, &prepared);
+    let (expected, moves) = expected(&case, &prepared);
     #[cfg(peer_sqlite3)]
     let database = sqlite::fill(&case.lists);
     let mut contest = prepared.contest();
+    #[cfg(before)]
+    prepared.add_before(&mut contest);
     add_btree(&mut contest, &case, &asked, &expected);
     #[cfg(peer_roaring)]
     add_roaring(&mut contest, &case, &asked, &expected);
@@ -96,7 +105,7 @@ pub fn run() -> Results {
     }
     let results = contest.run();
     print(&results, expected.iter().filter(|&&yes| yes).count());
-    results
+    Checked { results, moves }
 }
 
 fn print(results: &Results, yes: usize) {

@@ -1,12 +1,17 @@
 //! Drawing every member of an expression.
 
-use crate::inputs::{self, Case};
+use crate::inputs::{self, Case, Tree};
+#[cfg(before)]
+use crate::peers::before;
 #[cfg(peer_roaring)]
 use crate::peers::croaring;
+use crate::peers::same_steps::{self, RunResult};
 #[cfg(peer_sqlite3)]
 use crate::peers::sqlite;
-use crate::peers::{btree, merges, same_steps};
+use crate::peers::{btree, merges};
 use crate::table::{grouped, micros, peer, ratio, Table};
+#[cfg(before)]
+use crate::timing::BEFORE;
 use crate::timing::{Contest, Ratio, Results, Timed};
 use zwailmoor::ALL_DELIVERED;
 
@@ -40,34 +45,35 @@ impl Prepared {
         Prepared::new(case, vec![0; members + 1], vec![0; members + 1])
     }
 
-    pub fn engine(&self, calls: usize, replies: &mut [u64]) -> same_steps::RunResult {
+    /// So many of the calls, from a bookmark on.
+    pub fn engine(&self, bookmark: u64, calls: usize, replies: &mut [u64]) -> RunResult {
         let (codes, arguments) = (&self.codes[..calls], &self.arguments[..calls]);
         let result = zwailmoor::run(
             &self.numbers,
             &self.ends,
             ALL_DELIVERED,
             &self.packed,
-            0,
+            bookmark,
             codes,
             arguments,
             replies,
         );
         let result = result.unwrap_or_else(|refusal| panic!("the engine refuses with {}", refusal.number()));
-        same_steps::RunResult {
+        RunResult {
             moves: result.moves,
             places: result.places,
             bookmark: result.bookmark,
         }
     }
 
-    pub fn same_steps(&self, calls: usize, replies: &mut [u64]) -> same_steps::RunResult {
+    pub fn same_steps(&self, bookmark: u64, calls: usize, replies: &mut [u64]) -> RunResult {
         let (codes, arguments) = (&self.codes[..calls], &self.arguments[..calls]);
         let result = same_steps::run(
             &self.numbers,
             &self.ends,
             ALL_DELIVERED,
             &self.packed,
-            0,
+            bookmark,
             codes,
             arguments,
             replies,
@@ -75,20 +81,52 @@ impl Prepared {
         result.unwrap_or_else(|number| panic!("the same steps refuse with {number}"))
     }
 
-    /// Has both run all calls, demands equal replies, moves, places and bookmarks, and hands them back.
-    pub fn verified(&self) -> (Vec<u64>, same_steps::RunResult) {
+    #[cfg(before)]
+    pub fn before(&self, bookmark: u64, calls: usize, replies: &mut [u64]) -> RunResult {
+        let (codes, arguments) = (&self.codes[..calls], &self.arguments[..calls]);
+        let result = before::run(
+            &self.numbers,
+            &self.ends,
+            ALL_DELIVERED,
+            &self.packed,
+            bookmark,
+            codes,
+            arguments,
+            replies,
+        );
+        result.unwrap_or_else(|number| panic!("the engine of before refuses with {number}"))
+    }
+
+    /// Has all run all calls from a bookmark, and demands equal replies, places and bookmarks, and equal moves but of the engine of
+    /// before.
+    pub fn verified(&self, bookmark: u64) -> Verified {
         let calls = self.codes.len();
         let mut replies = vec![UNTOUCHED; calls + 1];
         let mut same_replies = replies.clone();
-        let result = self.engine(calls, &mut replies);
+        let result = self.engine(bookmark, calls, &mut replies);
         assert_eq!(
             result,
-            self.same_steps(calls, &mut same_replies),
+            self.same_steps(bookmark, calls, &mut same_replies),
             "moves, places or bookmark differ"
         );
         assert!(replies == same_replies, "replies differ");
+        #[cfg(before)]
+        let moves_before = {
+            let mut replies_before = vec![UNTOUCHED; calls + 1];
+            let before = self.before(bookmark, calls, &mut replies_before);
+            let moves = result.moves;
+            assert_eq!(RunResult { moves, ..before }, result, "places or bookmark of before differ");
+            assert!(replies == replies_before, "replies of before differ");
+            Some(before.moves)
+        };
+        #[cfg(not(before))]
+        let moves_before = None;
         assert_eq!(replies.pop(), Some(UNTOUCHED), "something was written behind the replies");
-        (replies, result)
+        Verified {
+            replies,
+            result,
+            moves_before,
+        }
     }
 
     /// The engine and the same steps, each with all calls and with none: the tests alone.
@@ -96,19 +134,54 @@ impl Prepared {
         let calls = self.codes.len();
         let mut contest = Contest::default();
         let (mut a, mut b) = (vec![0; calls], vec![0; calls]);
-        contest.add("engine", move || self.engine(calls, &mut a));
-        contest.add("same steps", move || self.same_steps(calls, &mut b));
-        contest.add("engine, tests", || self.engine(0, &mut []));
-        contest.add("same steps, tests", || self.same_steps(0, &mut []));
+        contest.add("engine", move || self.engine(0, calls, &mut a));
+        contest.add("same steps", move || self.same_steps(0, calls, &mut b));
+        contest.add("engine, tests", || self.engine(0, 0, &mut []));
+        contest.add("same steps, tests", || self.same_steps(0, 0, &mut []));
         contest
     }
+
+    /// The engine of before too, with all calls and with none.
+    #[cfg(before)]
+    pub fn add_before<'a>(&'a self, contest: &mut Contest<'a>) {
+        let calls = self.codes.len();
+        let mut replies = vec![0; calls];
+        contest.add(BEFORE, move || self.before(0, calls, &mut replies));
+        contest.add("before, tests", || self.before(0, 0, &mut []));
+    }
+}
+
+/// What every run of the same calls has to come to.
+pub struct Verified {
+    pub replies: Vec<u64>,
+    pub result: RunResult,
+    pub moves_before: Option<u32>,
+}
+
+impl Verified {
+    pub fn moves(&self) -> Moves {
+        Moves {
+            made: self.result.moves.into(),
+            places: self.result.passed().into(),
+            before: self.moves_before.map(u64::from),
+        }
+    }
+}
+
+/// The moves of a run or of some, what they would be if all were single, which is the sum of the places, and what the engine of before
+/// says.
+#[derive(Clone, Copy)]
+pub struct Moves {
+    pub made: u64,
+    pub places: u64,
+    pub before: Option<u64>,
 }
 
 /// A case, what it draws, and every contender's time.
 pub struct Drawn {
     pub case: Case,
     pub members: usize,
-    pub moves: u32,
+    pub moves: Moves,
     pub results: Results,
 }
 
@@ -127,15 +200,15 @@ fn expected(case: &Case) -> Vec<u32> {
     merges::members(&case.tree, &case.lists).into_owned()
 }
 
-fn verify_engine(prepared: &Prepared, expected: &[u32]) -> same_steps::RunResult {
-    let (replies, result) = prepared.verified();
-    let (last, members) = replies.split_last().expect("there is one call more than members");
+fn verify_engine(prepared: &Prepared, expected: &[u32]) -> Moves {
+    let verified = prepared.verified(0);
+    let (last, members) = verified.replies.split_last().expect("there is one call more than members");
     assert_eq!(*last, FINISHED);
     assert!(
         members.iter().copied().eq(expected.iter().map(|&x| u64::from(x))),
         "the engine's members differ"
     );
-    result
+    verified.moves()
 }
 
 fn add_std<'a>(contest: &mut Contest<'a>, case: &'a Case, expected: &[u32]) {
@@ -169,10 +242,12 @@ fn add_sqlite<'a>(contest: &mut Contest<'a>, case: &'a Case, database: &'a sqlit
 fn draw(case: Case) -> Drawn {
     let expected = expected(&case);
     let prepared = Prepared::drawing(&case, expected.len());
-    let moves = verify_engine(&prepared, &expected).moves;
+    let moves = verify_engine(&prepared, &expected);
     #[cfg(peer_sqlite3)]
     let database = sqlite::fill(&case.lists);
     let mut contest = prepared.contest();
+    #[cfg(before)]
+    prepared.add_before(&mut contest);
     add_std(&mut contest, &case, &expected);
     #[cfg(peer_roaring)]
     add_roaring(&mut contest, &case, &expected);
@@ -190,6 +265,7 @@ fn draw(case: Case) -> Drawn {
 pub fn all() -> Vec<Drawn> {
     let drawn: Vec<Drawn> = inputs::drawing_cases().into_iter().map(draw).collect();
     print_same_steps(&drawn);
+    print_moves(&drawn);
     print_peers(&drawn);
     print_spread(&drawn);
     drawn
@@ -213,7 +289,7 @@ fn print_same_steps(drawn: &[Drawn]) {
         table.row(vec![
             d.case.name.clone(),
             grouped(d.members as u64),
-            grouped(d.moves.into()),
+            grouped(d.moves.made),
             time("engine"),
             time("same steps"),
             whole,
@@ -223,6 +299,56 @@ fn print_same_steps(drawn: &[Drawn]) {
         ]);
     }
     table.print("Drawing all members: the engine and the same steps by hand (best, microseconds)");
+}
+
+/// Whether a list is so much shorter than another that the readers of the other go far at each seek.
+pub fn selective(case: &Case) -> bool {
+    let lengths = case.lists.iter().map(Vec::len);
+    matches!(case.tree, Tree::Intersection(_)) && lengths.clone().min().unwrap_or(0) * 100 < lengths.max().unwrap_or(0)
+}
+
+/// How many seeks of a reader it takes to draw all members of an intersection of lists: the candidate goes from list to list, and from
+/// the first again where it grew.
+fn seeks(lists: &[Vec<u32>]) -> u64 {
+    let (mut seeks, mut candidate) = (0, 0);
+    loop {
+        let mut at = 0;
+        while let Some(list) = lists.get(at) {
+            seeks += 1;
+            let Some(&answer) = list.get(list.partition_point(|&x| x < candidate)) else {
+                return seeks;
+            };
+            at = if answer > candidate && at > 0 { 0 } else { at + 1 };
+            candidate = answer;
+        }
+        candidate += 1;
+    }
+}
+
+fn print_moves(drawn: &[Drawn]) {
+    let mut table = Table::new(&[
+        "case",
+        "seeks of a reader",
+        "sum of the places",
+        "a seek",
+        "moves",
+        "a seek",
+        "times fewer",
+    ]);
+    for d in drawn.iter().filter(|d| selective(&d.case)) {
+        let (Moves { made, places, .. }, seeks) = (d.moves, seeks(&d.case.lists));
+        let each = |moves: u64| format!("{:.1}", moves as f64 / seeks as f64);
+        table.row(vec![
+            d.case.name.clone(),
+            grouped(seeks),
+            grouped(places),
+            each(places),
+            grouped(made),
+            each(made),
+            format!("{:.1}", places as f64 / made as f64),
+        ]);
+    }
+    table.print("Moves where a list is short: with hops, and as many as the places if all were single");
 }
 
 fn print_peers(drawn: &[Drawn]) {

@@ -27,7 +27,7 @@ fn table(name: &str, lists: usize, tree: &Tree) {
         let case = inputs::growth_case(lists, size, tree);
         let members = merges::members(tree, &case.lists).len();
         let prepared = Prepared::drawing(&case, members);
-        prepared.verified();
+        prepared.verified(0);
         let results = prepared.contest().run();
         let (engine, same) = (results.best("engine"), results.best("same steps"));
         let each = |seconds: f64| format!("{:.1}", seconds * 1e9 / (lists * size) as f64);

@@ -182,6 +182,13 @@ pub fn checking_case() -> (Case, Vec<u32>) {
     (Case::new("console", lists, Tree::console()), asked)
 }
 
+/// The console's expression over lists half as long, as dense as the others: about 11,000 members to be shown page by page.
+pub fn paging_case() -> Case {
+    let mut dice = Dice::new(SEED + 5);
+    let lists = (0..4).map(|_| dice.subset(SIZE / 2, UNIVERSE / 2)).collect();
+    Case::new("console", lists, Tree::console())
+}
+
 /// 32 lists with narrow gaps, and 32 with wide ones.
 pub fn delivery_lists() -> (Vec<Vec<u32>>, Vec<Vec<u32>>) {
     let mut dice = Dice::new(SEED + 2);

@@ -1,6 +1,7 @@
 //! The engine beside other ways to the same answers: one program, one machine, the same input.
 
 mod agreement;
+mod before;
 mod changing;
 mod checking;
 mod deliveries;
@@ -8,6 +9,7 @@ mod drawing;
 mod growth;
 mod inputs;
 mod machine;
+mod paging;
 mod peers;
 mod table;
 mod timing;
@@ -38,6 +40,17 @@ fn print_method() {
     println!("- BTreeSet, CRoaring and sqlite3 work on prepared sets, bitmaps and tables; building them is a column of its own.");
     println!("  Merges and BTreeSet make a new vector for the result, CRoaring and sqlite3 write into a prepared row");
     println!(
+        "- page by page: each page is a run of its own from the bookmark of the one before, and so tests the lists again and"
+    );
+    println!("  goes from place 0 to the bookmark. A hop over 64 numbers is one move");
+    if cfg!(before) {
+        println!(
+            "- before: the engine of an earlier landing, linked too; the contests that it takes part in have {} samples. Each",
+            timing::SAMPLES_BEFORE
+        );
+        println!("  function of both engines begins a page: where the linker puts it else can make a tenth");
+    }
+    println!(
         "- one change: a number comes into one of the lists or goes out of it, by a call that tests lists, expression and kept"
     );
     println!(
@@ -52,9 +65,11 @@ fn main() {
     print_method();
     agreement::demand();
     let drawn = drawing::all();
-    let checks = checking::run();
+    let checked = checking::run();
+    let paged = paging::all();
     changing::run();
     let speeds = deliveries::all();
     growth::all();
-    verdict::print(&drawn, &checks, &speeds);
+    verdict::print(&drawn, &checked.results, &speeds);
+    before::print(&drawn, &checked, &paged);
 }

@@ -5,7 +5,11 @@ use std::hint::black_box;
 use std::time::{Duration, Instant};
 
 pub const SAMPLES: usize = 11;
+/// Where an engine of an earlier landing takes part: what is asked about is then a twentieth.
+pub const SAMPLES_BEFORE: usize = 41;
 pub const SAMPLE_MILLISECONDS: u64 = 25;
+/// The contender that is an engine of an earlier landing.
+pub const BEFORE: &str = "before";
 
 /// Seconds for one repeat: the best, the median and the worst sample.
 #[derive(Clone, Copy)]
@@ -59,8 +63,13 @@ impl<'a> Contest<'a> {
     pub fn run(mut self) -> Results {
         let (start, before) = (Instant::now(), time_waited());
         let repeats: Vec<u32> = self.works.iter_mut().map(|(_, work)| repeats_for(work)).collect();
-        let mut samples = vec![Vec::with_capacity(SAMPLES); self.works.len()];
-        for _ in 0..SAMPLES {
+        let rounds = if self.works.iter().any(|(name, _)| *name == BEFORE) {
+            SAMPLES_BEFORE
+        } else {
+            SAMPLES
+        };
+        let mut samples = vec![Vec::with_capacity(rounds); self.works.len()];
+        for _ in 0..rounds {
             for (((_, work), &repeats), samples) in self.works.iter_mut().zip(&repeats).zip(&mut samples) {
                 // One repeat off the clock: the contender before has left the caches full of its own rows.
                 work();
@@ -101,12 +110,14 @@ impl Results {
     /// machine may spare one contender's best sample, but falls on a whole round: so both ratios are made.
     pub fn ratio(&self, above: &[(f64, &str)], below: &[(f64, &str)]) -> Option<Ratio> {
         let best = self.best_of(above)? / self.best_of(below)?;
-        let each = (0..SAMPLES).map(|round| Some(self.in_round(round, above)? / self.in_round(round, below)?));
+        let rounds = self.samples.first()?.1.len();
+        let each = (0..rounds).map(|round| Some(self.in_round(round, above)? / self.in_round(round, below)?));
         let rounds = spread(&each.collect::<Option<Vec<f64>>>()?).median;
         Some(Ratio { best, rounds })
     }
 
-    fn best_of(&self, terms: &[(f64, &str)]) -> Option<f64> {
+    /// The best times of some contenders added up, some to be taken off.
+    pub fn best_of(&self, terms: &[(f64, &str)]) -> Option<f64> {
         terms.iter().map(|(factor, name)| Some(factor * self.find(name)?.best)).sum()
     }
 

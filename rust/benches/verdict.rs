@@ -14,7 +14,7 @@ const MEGABYTES: f64 = 100.0;
 /// MB of the bytes that a move reads a second, at least.
 const MOVED_MEGABYTES: f64 = 200.0;
 
-fn word(reached: bool) -> &'static str {
+pub fn word(reached: bool) -> &'static str {
     if reached {
         "reached"
     } else {

@@ -29,9 +29,12 @@ pub struct DecodeResult {
 #[derive(Debug, Clone, Copy, PartialEq, Eq)]
 #[non_exhaustive]
 pub struct RunResult {
-    /// How many moves the readers made in all: the sum of the places.
+    /// How many moves the readers made in all. A reader that seeks a number first hops: while 64 numbers or more remain from its
+    /// place and the 64th of them is below that number, its place grows by 64, which is one move. Then it moves singly. So the moves
+    /// are at most the sum of the places, and that is at most what [`bounds`] says.
     pub moves: u32,
-    /// How far each node's reader moved, in expression order; 0 at operators and unused nodes.
+    /// Where each node's reader stands, in expression order: how many numbers of its list it has passed; 0 at operators and unused
+    /// nodes.
     pub places: [u16; 48],
     /// Where to go on: a run from here over the same lists and expression continues this one, with moves and places of its own.
     pub bookmark: u64,
@@ -178,7 +181,8 @@ pub fn list_part<'a>(numbers: &'a [u32], ends: &[u32], word: u32, list: usize) -
 ///
 /// - `members`: a list has as many as it is long, a union at most the sum of its nodes', an intersection the least of them, a
 ///   difference its first node's. For a single list it is exact.
-/// - `moves`: the lengths of the leaves' lists added up, a list once for each leaf it stands at. No run makes more.
+/// - `moves`: the lengths of the leaves' lists added up, a list once for each leaf it stands at. No run makes more; where readers
+///   hop, a run makes far fewer.
 /// - `bytes`: the most that a delivery of lists with these ends can fill, whether the expression names them or not. They are all
 ///   filled where every list was delivered, and each of two numbers or more needs the width of 32.
 ///

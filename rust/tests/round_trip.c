@@ -90,6 +90,32 @@ static int runs(void)
     return 0;
 }
 
+/* The list 10 20 30 and so on up to 1290, of 129 numbers: its 64th is 640. */
+static int hops(void)
+{
+    static const uint32_t ends[1] = {129};
+    static const uint8_t list[1] = {0x00};
+    static const uint8_t codes[3] = {ZWAILMOOR_AT_OR_PAST, ZWAILMOOR_CHECK, ZWAILMOOR_PAST};
+    static const uint32_t hopping[3] = {641, 1290, UINT32_MAX};
+    static const uint32_t single[3] = {640, 1270, 1270};
+    const uint32_t all = ZWAILMOOR_ALL_DELIVERED;
+    uint32_t numbers[129];
+    uint64_t replies[3];
+    for (uint32_t i = 0; i < 129; i++) {
+        numbers[i] = 10 * (i + 1);
+    }
+    /* One hop to 650, one to 1290, and a single move over it. */
+    zwailmoor_run_result result = zwailmoor_run(numbers, 129, ends, 1, all, list, 1, 0, codes, 3, hopping, 3, replies, 3);
+    REQUIRE(41, result.number == ZWAILMOOR_ACCEPTED && result.moves == 3 && result.places[0] == 129)
+    REQUIRE(42, replies[0] == 650 && replies[1] == ZWAILMOOR_YES && replies[2] == ZWAILMOOR_FINISHED)
+    REQUIRE(43, result.bookmark == ZWAILMOOR_TOP_BOOKMARK)
+    /* Each time the 64th number is not below what is sought: 63, 63 and 1 single moves. */
+    result = zwailmoor_run(numbers, 129, ends, 1, all, list, 1, 0, codes, 3, single, 3, replies, 3);
+    REQUIRE(44, result.number == ZWAILMOOR_ACCEPTED && result.moves == 127 && result.places[0] == 127)
+    REQUIRE(45, replies[0] == 640 && replies[1] == ZWAILMOOR_YES && replies[2] == 1280 && result.bookmark == 1281)
+    return 0;
+}
+
 /* What is reserved by the bounds is enough, and here no less would be. */
 static int bounds(void)
 {
@@ -168,6 +194,7 @@ int main(void)
     wrong = wrong == 0 ? deliveries() : wrong;
     wrong = wrong == 0 ? moves() : wrong;
     wrong = wrong == 0 ? runs() : wrong;
+    wrong = wrong == 0 ? hops() : wrong;
     wrong = wrong == 0 ? bounds() : wrong;
     wrong = wrong == 0 ? updates() : wrong;
     return wrong == 0 ? undelivered_updates() : wrong;

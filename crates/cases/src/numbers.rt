@@ -74,13 +74,29 @@ fn relation(case: u64) -> u64 {
     5
 }
 
-// How many candidates: 20 in 70 of 100 cases, 40 in 15, 8 in 15; 40 to 160 where one list is far
-// longer.
-fn candidates(case: u64) -> u64
-    ensures { λ r. ⌜ r ≤ 160 ⌝ }
+// Whether one list of a case has every candidate, and so is far longer than the others.
+pub fn is_long(case: u64) -> bool {
+    relation(case) == 5
+}
+
+// How many candidates such a case has: 40 to 200, and in half of the cases as many as one, two or three hops take, or a number less
+// or more.
+fn long_size(case: u64) -> u64
+    ensures { λ r. ⌜ r ≤ 200 ⌝ }
 {
-    if relation(case) == 5 {
-        return 40 + roll(case, LONG, 0) % 121;
+    let r = roll(case, LONG, 0);
+    if pick(case, LONG, 2, 100) < 50 {
+        return 40 + r % 161;
+    }
+    63 + r % 3 * 64 + r / 3 % 3
+}
+
+// How many candidates: 20 in 70 of 100 cases, 40 in 15, 8 in 15; more where one list is far longer.
+pub fn candidates(case: u64) -> u64
+    ensures { λ r. ⌜ r ≤ 200 ⌝ }
+{
+    if is_long(case) {
+        return long_size(case);
     }
     let p = pick(case, SIZE, 0, 100);
     if p < 70 {
@@ -94,7 +110,7 @@ fn candidates(case: u64) -> u64
 
 // A candidate of a universe of n. Of 100 cases: 45 from 0 on, 17 up to 4294967295, 10 with a half at
 // each end of the range, 13 spread over the whole range, 15 from a small number on with gaps.
-fn candidate(case: u64, n: u64, slot: u64) -> u64 {
+pub fn candidate(case: u64, n: u64, slot: u64) -> u64 {
     let p = pick(case, UNIVERSE, 0, 100);
     let s = slot % 256;
     let top = 4294967296 - n % 256 + s;

@@ -6,6 +6,9 @@ use crate::inputs::Calls;
 use crate::inputs::Lists;
 use crate::inputs::narrow;
 use crate::inputs::wide;
+use crate::numbers::candidate;
+use crate::numbers::candidates;
+use crate::numbers::is_long;
 ghost use Prim.Native.Nat.{_<_, _≤_};
 
 // What the numbers of this file are drawn for.
@@ -27,14 +30,20 @@ const BOOKMARK: u64 = 307;
 
 const BREAK: u64 = 308;
 
+const FAR: u64 = 309;
+
 const LARGEST: u64 = 4294967295;
 
 // The style of a case's calls. Of 100 cases:
 // 0, 24: any codes and arguments. 1, 12: 24 nexts. 2, 12: checks of rising list numbers.
 // 3, 10: at or past and past with falling arguments. 4, 42: any codes with rising arguments, so that
-// the floor does not leave all numbers behind at once.
+// the floor does not leave all numbers behind at once. Of 100 cases where one list is far longer, 60 have 5: any codes, the first
+// arguments about 64 numbers of that list apart, where readers hop.
 fn style(case: u64) -> u64 {
     let p = pick(case, STYLE, 0, 100);
+    if is_long(case) && pick(case, STYLE, 1, 100) < 60 {
+        return 5;
+    }
     if p < 24 {
         return 0;
     }
@@ -197,6 +206,30 @@ fn falling(case: u64, index: u64, last: u64, l: Lists) -> u64 {
     largest_to(l, last - j)
 }
 
+// How many numbers of a far longer list the first far argument leaves behind it, give or take a few: nearly 64 in 40 of 100 cases, so
+// that readers hop from the list's start; else fewer, so that they hop from the middle.
+fn far_start(case: u64) -> u64
+    ensures { λ r. ⌜ r ≤ 61 ⌝ }
+{
+    if pick(case, FAR, 0, 100) < 40 {
+        return 61;
+    }
+    roll(case, FAR, 1) % 61
+}
+
+// A number of the far longer list, or its neighbour, about 64 places behind that of the call before; any argument behind its end.
+fn far(case: u64, index: u64, l: Lists) -> u64
+    ensures { λ r. ⌜ r < 4294967296 ⌝ }
+{
+    let i = index % 32;
+    let slot = far_start(case) + i * 64 + roll(case, FAR, 2 + i) % 5;
+    let n = candidates(case);
+    if slot < n {
+        return nudged(case, index, candidate(case, n, slot));
+    }
+    any_argument(case, index, l)
+}
+
 // The argument of a call, after the one of the call before it.
 fn argument(case: u64, how: u64, index: u64, last: u64, l: Lists) -> u64 {
     let from = last % 4294967296 + jump(case, index);
@@ -208,6 +241,9 @@ fn argument(case: u64, how: u64, index: u64, last: u64, l: Lists) -> u64 {
     }
     if how == 4 {
         return nudged(case, index, least_from(l, from));
+    }
+    if how == 5 {
+        return far(case, index, l);
     }
     any_argument(case, index, l)
 }

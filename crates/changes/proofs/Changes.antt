@@ -20,7 +20,7 @@ use Rattle.model.specs.Update.{Change, remove, old-list, new-list, new-lists, s
 use Rattle.model.specs.RequestOne.{in-or-out, moved, opposite}
 use Rattle.model.proofs.Order.{and-right, and-true, not-both, split, Up, up-low, up-none}
 use Rattle.model.proofs.Denoted.{insert-among, insert-up, members-up, members-are}
-use Rattle.model.proofs.Seek.{passed-on, passed-off}
+use Rattle.model.proofs.Hops.{passed-on, passed-off}
 use Rattle.model.proofs.Deliveries.{Storable, storable-up}
 use Rattle.model.proofs.Laid.{lists-length}
 

@@ -10,7 +10,7 @@ use Rattle.model.specs.Outcome.{accepted}
 use Rattle.model.specs.Lists.{lists-from}
 use Rattle.model.specs.Expression.{Tree}
 use Rattle.model.specs.Forms.{node-of}
-use Rattle.model.specs.Steps.{Readers, Checked, read, is-at, check-node}
+use Rattle.model.specs.Steps.{Readers, Checked, read, is-at, check-node, check-by}
 use Rattle.expression.specs.Reading.{members}
 use Rattle.reader.specs.Rows.{Ready}
 use Rattle.reader.proofs.Standing.{kind, below, many-below, leaf-is, difference-is, union-is, intersection-is, root-is}
@@ -36,7 +36,7 @@ module _ {numbers ends nodes behind : List ℕ} (ready : Ready numbers ends node
   module _ (d : ℕ) (rs : Readers) where
     pub of-list : (k : ℕ) (c : Checked) → node-of (getD nodes i 0) ≡ accepted (Leaf k)
         → c ≡ is-at d (read (getD (lists-from numbers 0 ends) k []) i d rs) → Says numbers ends nodes d i rs c
-    unfolding check-node
+    unfolding check-by
     of-list k c e a t s = rw (leaf-is t k (root-is (length ends) nodes t i (Leaf k) s e)) a
 
     pub of-members : (b : Bool) (n : ℕ) (c : Checked) → node-of (getD nodes i 0) ≡ accepted (joins b n)

@@ -10,7 +10,7 @@ use lib.Dec.{eqb}
 use lib.ListN.{length, getD}
 use Rattle.model.specs.Lists.{lists-from}
 use Rattle.model.specs.Expression.{Tree, difference, union, intersection, Members, one, more, size}
-use Rattle.model.specs.Steps.{Readers, Check, Checked, says, turned, on-yes, on-no, check-node, check-union, check-intersection}
+use Rattle.model.specs.Steps.{Readers, Check, Checked, says, turned, on-yes, on-no, check-node, check-union, check-intersection, check-by}
 use Rattle.reader.specs.Rows.{Stands, Behind}
 use Rattle.reader.proofs.Standing.{each}
 use Rattle.reader.proofs.Members.{Comes, comes-last, comes-now, comes-on}
@@ -67,19 +67,19 @@ last-said true (t ∷ ts) n y rs h = rw (said, ne-eqb n 1 (λ e. omega arith)) r
 -- of a union, an intersection or a difference they are the model's
 module _ (ls : List (List ℕ)) where
   until-members : (b : Bool) (ts : Members) (i d : ℕ) (rs : Readers) → check-until b false ls (each ts) i d rs ≡ checks-of b ls ts i d rs
-  unfolding check-until each check-node
+  unfolding check-until each check-by
   until-members true (one t) i d rs = unless-last true (check-node ls t i d rs)
   until-members false (one t) i d rs = unless-last false (check-node ls t i d rs)
   until-members true (more t ts) i d rs = unless-same true (check-node ls t i d rs) _ _ (until-members true ts (i + size t) d)
   until-members false (more t ts) i d rs = unless-same false (check-node ls t i d rs) _ _ (until-members false ts (i + size t) d)
 
   pub until-operator : (b : Bool) (ts : Members) (i d : ℕ) (rs : Readers) → check-until b false ls (each ts) (1 + i) d rs ≡ check-node ls (operator b ts) i d rs
-  unfolding check-node
+  unfolding check-by
   until-operator true ts i d rs = until-members true ts (1 + i) d rs
   until-operator false ts i d rs = until-members false ts (1 + i) d rs
 
   pub until-pair : (s t : Tree) (i d : ℕ) (rs : Readers) → check-until false true ls (s ∷ t ∷ []) (1 + i) d rs ≡ check-node ls (difference s t) i d rs
-  unfolding check-until check-node
+  unfolding check-until check-by
   until-pair s t i d rs = unless-same false (check-node ls s (1 + i) d rs) _ _ (λ rs₁. unless-last false (turned (check-node ls t (1 + i + size s) d rs₁)))
 
 -- what the check of the node i says, whatever stands there

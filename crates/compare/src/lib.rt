@@ -32,11 +32,12 @@ pub const MARK: u64 = 12297829382473034410;
 
 pub const MARK_32: u32 = 2863311530;
 
-// What came out differently, 0 where nothing did, and what the engine's run handed back.
+// What came out differently, 0 where nothing did, and what the engine's run handed back, of the places their sum.
 pub struct Verdict {
     pub differs: u32,
     pub number: u32,
     pub moves: u32,
+    pub places: u64,
     pub last: Begin,
     pub replies: [u64; 32],
 }
@@ -65,6 +66,7 @@ fn failed(what: u32) -> Verdict {
         differs: what,
         number: 0,
         moves: 0,
+        places: 0,
         last: lent::first(),
         replies: [MARK; 32],
     }
@@ -121,6 +123,7 @@ fn run_both(
         differs: 0,
         number: r.number,
         moves: r.moves,
+        places: rows::sum(places),
         last: last_of(r),
         replies,
     }

@@ -121,17 +121,53 @@ pub fn are_joined(whole: &[u64; 32], first: &[u64; 32], second: &[u64; 32], k: u
     true
 }
 
-// Whether no place passes the length of its list, which is 0 at operators and unused nodes, and the moves are the sum of the
-// places.
-pub fn are_places(places: [u16; 48], lengths: [u32; 48], moves: u32) -> bool {
-    let mut sum: u64 = 0;
+// Whether no place passes the length of its list, which is 0 at operators and unused nodes.
+fn are_within(places: [u16; 48], lengths: [u32; 48]) -> bool {
     for i in 0..48 {
         if wide(lengths[i]) < wide_place(places[i]) {
             return false;
         }
-        sum = (sum + wide_place(places[i])) % 4294967296;
     }
-    sum == wide(moves)
+    true
+}
+
+// The sum of the places: the moves of readers that never hopped.
+pub fn sum(places: [u16; 48]) -> u64 {
+    let mut all: u64 = 0;
+    for i in 0..48 {
+        all = std::num::wrapping_add_u64(all, wide_place(places[i]));
+    }
+    all
+}
+
+// The fewest moves that lead to a place: as many hops of 64 as it holds.
+fn fewest(place: u64) -> u64 {
+    let hops = place / 64;
+    std::num::wrapping_add_u64(hops, place % 64)
+}
+
+// The fewest moves that lead to these places.
+fn fewest_to(places: [u16; 48]) -> u64 {
+    let mut all: u64 = 0;
+    for i in 0..48 {
+        all = std::num::wrapping_add_u64(all, fewest(wide_place(places[i])));
+    }
+    all
+}
+
+// Whether readers can have come to these places by so many moves. A hop is one move for 64 places: the moves are the sum of the places
+// less 63 for each hop, and no reader has hopped more often than its place holds 64. So they are never above that sum, never below a
+// 64th of it, and not 0 where a place is not.
+pub fn are_moves(places: [u16; 48], moves: u32) -> bool {
+    let singly = sum(places);
+    let made = wide(moves);
+    let spared = std::num::wrapping_sub_u64(singly, made);
+    fewest_to(places) <= made && made <= singly && spared % 63 == 0
+}
+
+// Whether readers over lists of these lengths can have come to these places by so many moves.
+pub fn are_places(places: [u16; 48], lengths: [u32; 48], moves: u32) -> bool {
+    are_within(places, lengths) && are_moves(places, moves)
 }
 
 fn put(row: &mut [u8], at: usize, b: u8) {

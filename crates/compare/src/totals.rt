@@ -3,8 +3,8 @@ use crate::Verdict;
 use crate::rows::wide;
 ghost use Prim.Native.Nat.{_<_};
 
-// What the cases of one kind came to: the calls' replies by kind, the runs' moves, the members that came or went by a change, the
-// runs or changes by their number.
+// What the cases of one kind came to: the calls' replies by kind, the runs' moves and places, the members that came or went by a
+// change, the runs or changes by their number.
 pub struct Totals {
     pub differ: u64,
     pub members: u64,
@@ -13,6 +13,7 @@ pub struct Totals {
     pub no: u64,
     pub unknown: u64,
     pub moves: u64,
+    pub places: u64,
     pub came: u64,
     pub went: u64,
     pub numbers: [u64; 20],
@@ -27,6 +28,7 @@ pub fn none() -> Totals {
         no: 0,
         unknown: 0,
         moves: 0,
+        places: 0,
         came: 0,
         went: 0,
         numbers: [0; 20],
@@ -87,6 +89,7 @@ pub fn with_run(t: Totals, v: Verdict) -> Totals {
     let replies = v.replies;
     let mut sum = with_replies(t, replies);
     sum.moves = more(t.moves, wide(v.moves));
+    sum.places = more(t.places, v.places);
     with_number(sum, v.number, v.differs != 0)
 }
 

@@ -197,6 +197,7 @@ fn print(name: &[u8], count: u64, damaged: bool) {
     item(t.no, b" no");
     item(t.unknown, b" unknown");
     item(t.moves, b" moves");
+    item(t.places, b" places");
     let numbers = t.numbers;
     print_numbers(numbers);
     text::end();

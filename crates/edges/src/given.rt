@@ -5,9 +5,6 @@ use crate::words::Form;
 use crate::words::Reading;
 use evaluator::Lists;
 
-// Ends a list in a row of lists: 1, 5, END, END is a list of two numbers and an empty one.
-pub const END: u64 = 4294967296;
-
 // The first elements of a row that a call is lent, and whether its field reads.
 pub struct Row32 {
     pub row: [u32; 80],
@@ -27,51 +24,6 @@ pub fn number_of(x: u64) -> u32 {
 
 fn code_of(x: u64) -> u8 {
     (x / 4294967296 % 256) as u8
-}
-
-// The numbers of the lists.
-pub fn numbers(lists: &[u64]) -> Row32 {
-    let mut row = [0u32; 80];
-    let mut count: usize = 0;
-    for i in 0..lists.len() {
-        let x = lists[i];
-        if x < END {
-            row[count % 80] = number_of(x);
-            count = std::num::wrapping_add_usize(count, 1);
-        }
-    }
-    Row32 {
-        row,
-        count,
-        good: true,
-    }
-}
-
-// The ends of the lists.
-pub fn ends(lists: &[u64]) -> Row32 {
-    let mut row = [0u32; 80];
-    let mut count: usize = 0;
-    let mut at: u32 = 0;
-    for i in 0..lists.len() {
-        if lists[i] < END {
-            at = std::num::wrapping_add_u32(at, 1);
-        } else {
-            row[count % 80] = at;
-            count = std::num::wrapping_add_usize(count, 1);
-        }
-    }
-    Row32 {
-        row,
-        count,
-        good: true,
-    }
-}
-
-// How the lists lie in their numbers.
-pub fn laid(lists: &[u64], word: u32) -> Lists {
-    let given = ends(lists);
-    let row = given.row;
-    evaluator::laid(marks::front_32(&row, given.count), word)
 }
 
 // So many lists, of which only their number and the word count.

@@ -1,6 +1,7 @@
 // A case of the script by its kind: its fields are read, and the call is made. Each function answers what the line came to.
 use crate::given;
 use crate::given::Row8;
+use crate::laid;
 use crate::limits;
 use crate::long;
 use crate::marks;
@@ -115,17 +116,16 @@ fn word(line: &[u8], kind: &[u8]) -> Numeral {
 
 // name | run | lists | nodes | bookmark | calls [| word], where the nodes read: only `rows` has an expression that is refused
 fn run(line: &[u8]) -> Line {
-    let lists = words::read(line, 2, Form::Lists);
+    let mut row = [0u32; 65536];
+    let lists = laid::lists(line, 2, &mut row);
     let word = word(line, b"run");
     if !lists.good || !word.good {
         return Line::Unread;
     }
-    let row = lists.row;
-    let front = marks::front_64(&row, lists.count);
-    let laid = given::laid(front, given::number_of(word.value));
-    let numbers = given::numbers(front);
-    let number_row = numbers.row;
-    run_of_nodes(line, marks::front_32(&number_row, numbers.count), laid)
+    let ends = lists.ends;
+    let end_front = marks::front_32(&ends, lists.count);
+    let laid = evaluator::laid(end_front, given::number_of(word.value));
+    run_of_nodes(line, long::front(&row, lists.numbers), laid)
 }
 
 fn run_of_nodes(line: &[u8], numbers: &[u32], lists: Lists) -> Line {
@@ -153,7 +153,7 @@ fn run_of_nodes(line: &[u8], numbers: &[u32], lists: Lists) -> Line {
     )
 }
 
-// name | kind | numbers | ends, what else the kind has, and [| word]. The word ramp stands for the numbers 0 to 65,535.
+// name | kind | numbers | ends, what else the kind has, and [| word]
 fn of_lists(line: &[u8], kind: &[u8]) -> Line {
     let ends = given::whole(line, 3);
     let word = word(line, kind);
@@ -163,16 +163,12 @@ fn of_lists(line: &[u8], kind: &[u8]) -> Line {
     let end_row = ends.row;
     let end_front = marks::front_32(&end_row, ends.count);
     let laid = evaluator::laid(end_front, given::number_of(word.value));
-    if check::same(words::field(line, 2), b"ramp") {
-        let row = long::ramp();
-        return lent_lists(line, kind, &row, laid);
-    }
-    let numbers = given::whole(line, 2);
+    let mut row = [0u32; 65536];
+    let numbers = laid::numbers(line, 2, &mut row);
     if !numbers.good {
         return Line::Unread;
     }
-    let row = numbers.row;
-    lent_lists(line, kind, marks::front_32(&row, numbers.count), laid)
+    lent_lists(line, kind, long::front(&row, numbers.numbers), laid)
 }
 
 // test | .., rows | .., update | .., part | .. | list number, encode | .. [| room]

@@ -4,6 +4,7 @@
 mod generated;
 mod given;
 mod kinds;
+mod laid;
 mod limits;
 mod long;
 mod marks;

@@ -7,6 +7,7 @@ use crate::text;
 use compare::all_64;
 use compare::evaluated;
 use compare::lent;
+use compare::rows;
 use evaluator::Begin;
 use evaluator::Lists;
 use model::RunResult;
@@ -188,8 +189,8 @@ fn handed_back(ran: RunResult, nodes: usize) {
     if sum(&places, nodes) != 0 {
         text::put(b", a place behind the nodes is not 0");
     }
-    if sum(&places, 0) != text::wide_32(ran.moves) {
-        text::put(b", the moves are not the sum of the places");
+    if !rows::are_moves(places, ran.moves) {
+        text::put(b", the moves are not those of hops and single moves");
     }
 }
 

@@ -1,5 +1,4 @@
 // A line of the script cut into fields, and a field read into a row of numbers.
-use crate::given::END;
 use crate::text;
 
 // The greatest number of 32 bits, and of 64.
@@ -7,11 +6,10 @@ pub const TOP: u64 = 4294967295;
 
 pub const TOP_64: u64 = 18446744073709551615;
 
-// How a field is written: numbers up to a greatest one, bytes of two hexadecimal digits, lists with '/' between them, or calls.
+// How a field is written: numbers up to a greatest one, bytes of two hexadecimal digits, or calls.
 pub enum Form {
     Decimal(u64),
     Hexadecimal,
-    Lists,
     Calls,
 }
 
@@ -41,7 +39,7 @@ pub fn part(s: &[u8], a: usize, b: usize) -> &[u8] {
 }
 
 // A space, a tab, or the carriage return before a line's end.
-fn blank(b: u8) -> bool {
+pub fn blank(b: u8) -> bool {
     b == 32 || b == 9 || b == 13
 }
 
@@ -64,6 +62,16 @@ fn back(s: &[u8]) -> usize {
         }
     }
     end
+}
+
+// Where such a byte stands first, or the end.
+pub fn place(s: &[u8], b: u8) -> usize {
+    for i in 0..s.len() {
+        if s[i] == b {
+            return i;
+        }
+    }
+    s.len()
 }
 
 pub fn trimmed(s: &[u8]) -> &[u8] {
@@ -139,7 +147,7 @@ fn digits(word: &[u8]) -> Numeral {
 }
 
 // A decimal number, at most so great.
-fn decimal(word: &[u8], most: u64) -> Numeral {
+pub fn decimal(word: &[u8], most: u64) -> Numeral {
     let n = digits(word);
     if n.good && n.value <= most && word.len() != 0 {
         return n;
@@ -174,14 +182,6 @@ fn hexadecimal(word: &[u8]) -> Numeral {
         }
     }
     bad()
-}
-
-// A number of a list, or '/' behind it.
-fn list_word(word: &[u8]) -> Numeral {
-    if check::same(word, b"/") {
-        return good(END);
-    }
-    decimal(word, TOP)
 }
 
 // The code that a word stands for; next is the only one with no number behind it.
@@ -265,7 +265,6 @@ fn with_word(r: Reading, form: Form, word: &[u8]) -> Reading {
     match form {
         Form::Decimal(most) => pushed(r, decimal(word, most)),
         Form::Hexadecimal => pushed(r, hexadecimal(word)),
-        Form::Lists => pushed(r, list_word(word)),
         Form::Calls => call_word(r, word),
     }
 }
@@ -293,16 +292,13 @@ fn each_word(s: &[u8], form: Form) -> Reading {
     with_word(r, form, part(s, start, s.len()))
 }
 
-// Field k. The last list has no '/' behind it, and a call that wants a number has one.
+// Field k. A call that wants a number has one.
 pub fn read(line: &[u8], k: usize, form: Form) -> Reading {
     let r = each_word(field(line, k), form);
     if r.waiting {
         return pushed(r, bad());
     }
-    match form {
-        Form::Lists => pushed(r, good(END)),
-        _ => r,
-    }
+    r
 }
 
 // Field k, one number, at most so great.

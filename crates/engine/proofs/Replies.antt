@@ -14,7 +14,7 @@ use Rattle.model.specs.Steps as model
 use Rattle.model.specs.Steps.{says, seek, check-node}
 use Rattle.model.specs.declared.Reply.{Reply}
 use Rattle.model.specs.declared.Reply.the-variants.{Member, Finished, Yes, No, Unknown}
-use Rattle.model.specs.Run.{State, drawn, told, step}
+use Rattle.model.specs.Run.{State, drawn, told, step, step-by}
 use Rattle.model.proofs.Order.{and-true, split}
 use Rattle.reader.specs.Sought.{found}
 use Rattle.reader.proofs.Answers.{found-at, found-end}
@@ -50,7 +50,7 @@ module _ (x : ℕ) (rs : model.Readers) where
 module _ (ls : List (List ℕ)) (t : Tree) (s : State) where
   -- a draw, at what the codes 0 to 2 raise the floor to
   pub code-drawn : (code d to : ℕ) → code ≤ 2 → Raises (s .floor) code d to → drawn (seek ls t 0 to (s .readers)) ≡ step ls t s (call code d)
-  unfolding step call
+  unfolding step-by call
   code-drawn zero d to h e = ap (λ (n : ℕ). drawn (seek ls t 0 n (s .readers))) (e .0 refl)
   code-drawn (suc zero) d to h e = ap (λ (n : ℕ). drawn (seek ls t 0 n (s .readers))) (e .1 refl)
   code-drawn (suc (suc zero)) d to h e = ap (λ (n : ℕ). drawn (seek ls t 0 n (s .readers))) (e .2 refl)
@@ -59,16 +59,16 @@ module _ (ls : List (List ℕ)) (t : Tree) (s : State) where
   -- a check that is made
   pub code-made : (code d to : ℕ) (b : Bool) (rs : model.Readers) → eqb code 3 && leb (s .floor) d ≡ true → to ≡ d → says b rs ≡ check-node ls t 0 d (s .readers)
       → _≡_ {A = Reply × State} (cond b Yes No, record { floor = to; readers = rs }) (step ls t s (call code d))
-  unfolding step call told
+  unfolding step-by call told
   code-made code d to b rs made e c =
       let (three, up) = and-true (eqb code 3) (leb (s .floor) d) made in
-      rw (eqb-true code 3 three, step, le-ltb d (s .floor) (leb-true (s .floor) d up), ← c, e)
+      rw (eqb-true code 3 three, step-by, le-ltb d (s .floor) (leb-true (s .floor) d up), ← c, e)
 
   -- a call that moves nothing: a check below the floor, or any other code
   pub code-idle : (code d : ℕ) → 3 ≤ code → eqb code 3 && leb (s .floor) d ≡ false → _≡_ {A = Reply × State} (cond (eqb code 3) No Unknown, s) (step ls t s (call code d))
-  unfolding step call
+  unfolding step-by call
   code-idle zero d h idle = absurd (omega arith)
   code-idle (suc zero) d h idle = absurd (omega arith)
   code-idle (suc (suc zero)) d h idle = absurd (omega arith)
-  code-idle (suc (suc (suc zero))) d h idle = rw (step, lt-ltb d (s .floor) (leb-false (s .floor) d idle))
+  code-idle (suc (suc (suc zero))) d h idle = rw (step-by, lt-ltb d (s .floor) (leb-false (s .floor) d idle))
   code-idle (suc (suc (suc (suc code)))) d h idle = rw (ne-eqb (suc (suc (suc (suc code)))) 3 (λ e. omega arith))

@@ -9,7 +9,7 @@ use Rattle.model.specs.declared.Reply.{Reply}
 use Rattle.model.specs.Outcome.{Sent}
 use Rattle.model.specs.Expression.{Tree}
 use Rattle.model.specs.Machine.{Call, call, calls, encode}
-use Rattle.model.specs.Run.{State, step, steps, starting, begin, run}
+use Rattle.model.specs.Run.{State, step, steps, starting, begin, run, run-by, steps-by}
 use Rattle.model.specs.Calls.{run-parts}
 use Rattle.model.specs.Demands.{ran-all}
 use Rattle.fields.specs.Rows.{lay}
@@ -29,19 +29,19 @@ sends ls t s cs lent i =
 -- from the start
 pub sends-start : (ls : List (List ℕ)) (t : Tree) (bookmark : ℕ) (codes ds lent : List ℕ)
     → sends ls t (record { floor = bookmark; readers = record { places = replicate 48 0; moves = 0 } }) (calls codes ds) lent 0 ≡ ran-all (run ls t (starting bookmark) (calls codes ds)) lent
-unfolding sends run begin lay
+unfolding sends run-by begin lay
 sends-start ls t bookmark codes ds lent = let rs = steps ls t (begin (starting bookmark)) (calls codes ds) .0 in rw (zero-add (length (map encode rs)), length-map rs encode)
 
 -- behind the last call
 pub sends-none : (ls : List (List ℕ)) (t : Tree) (s : State) (codes ds lent : List ℕ) (i : ℕ) → length codes ≤ i
     → handed s lent ≡ sends ls t s (calls (drop i codes) (drop i ds)) lent i
-unfolding sends steps calls
+unfolding sends steps-by calls
 sends-none ls t s codes ds lent i h = rw (drop-of-length-le codes {i = i} h, lay-nil lent i)
 
 -- one call, which leaves its reply x in the row and the state of p
 sends-cons : (ls : List (List ℕ)) (t : Tree) (s : State) (c : Call) (cs : List Call) (lent : List ℕ) (i : ℕ) (p : Reply × State) (x : ℕ)
     → i < length lent → p ≡ step ls t s c → x ≡ encode (p .0) → sends ls t (p .1) cs (set lent i x) (i + 1) ≡ sends ls t s (c ∷ cs) lent i
-unfolding sends steps
+unfolding sends steps-by
 sends-cons ls t s c cs lent i p x h e f =
     let q = steps ls t (p .1) cs in
     ap (handed (q .1)) (ap (λ (y : ℕ). lay (set lent i y) (i + 1) (map encode (q .0))) f ∙ sym (lay-cons lent i (encode (p .0)) (map encode (q .0)) h))

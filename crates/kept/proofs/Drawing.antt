@@ -9,7 +9,7 @@ use Rattle.model.specs.declared.Reply.{Reply}
 use Rattle.model.specs.declared.Reply.the-variants.{Member, Finished, Yes, No, Unknown}
 use Rattle.model.specs.Expression.{Tree}
 use Rattle.model.specs.Steps.{seek}
-use Rattle.model.specs.Run.{State, drawn, step}
+use Rattle.model.specs.Run.{State, drawn, step-by}
 use Rattle.model.specs.Update.{same}
 use Rattle.kept.specs.Kept.{none-drawn}
 use Rattle.model.proofs.Order.{not-both}
@@ -37,7 +37,7 @@ module _ (ls : List (List ℕ)) (t : Tree) (kept : List ℕ) (i : ℕ) (s : Stat
   ms = members-from ls t (s .floor)
 
   drew : Next-drawn ls t ms p
-  unfolding step
+  unfolding step-by
   drew = rw e (draws-next ls t s between)
 
   pub goes-between : Between ls t (p .1)

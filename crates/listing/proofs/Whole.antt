@@ -16,7 +16,7 @@ use Rattle.model.specs.Lists.{Numbers, lists-from, lend, lists-of}
 use Rattle.model.specs.Expression.{Tree}
 use Rattle.model.specs.Sets.{all-numbers, members}
 use Rattle.model.specs.Machine.{next}
-use Rattle.model.specs.Run.{State, steps, starting, begin, run}
+use Rattle.model.specs.Run.{State, steps, starting, begin, run, run-by}
 use Rattle.model.specs.Forms.{there, read-packed}
 use Rattle.model.specs.Delivery.{Supplied, supplied-numbers, read-delivery, word-of}
 use Rattle.model.specs.Calls.{counted, counted-refused, decoded, ends-from, laid-out, decode-delivery}
@@ -73,7 +73,7 @@ module _ (numbers ends : List ℕ) (word : ℕ) (packed lent : List ℕ) where
 
       -- in a page of 4,097 places
       pub draws-all : (nodes : List ℕ) → Stands (length ends) nodes t 0 → (room : List ℕ) → length room ≡ 4097 → (r : Page) (row : List ℕ) → page-of r row ≡ laid-down (page ls t (begin (starting 0)) (length room)) room → All-drawn ls t r row
-      unfolding run begin asked
+      unfolding run-by begin asked
       draws-all nodes h room long r row e =
           let p = rw (from-all 0 ms (members-up ls (readable-up numbers ends n (d .lists)) t)) at (holds-page ls t (begin (starting 0)) (starts numbers ends nodes n (d .lists) t h (starting 0) (omega arith)) room r row e) in
           let count : r .count ≡ length ms = omega (arith, p .count, few) in

@@ -10,7 +10,7 @@ use borrow.Author.Tests.{eqb-true, eqb-false}
 use lib.ListN.{getD, length}
 use Rattle.model.specs.Lists.{top}
 use Rattle.model.specs.Expression.{Tree, leaf, difference, union, intersection, Members, one, more, size, sizes}
-use Rattle.model.specs.Steps.{Readers, Found, end, at, Checked, says, Check, read, is-at, turned, on-yes, on-no, check-node, check-union, check-intersection}
+use Rattle.model.specs.Steps.{Readers, Found, end, at, Checked, says, Check, read, is-at, turned, on-yes, on-no, check-node, check-union, check-intersection, check-by}
 use Rattle.model.proofs.Order.{Up}
 use Rattle.model.proofs.Residual.{Set, Local, Kept, Sought, kept-wide, left-of, residual, residual-some, residual-all, residual-local, some-local, all-local}
 use Rattle.model.proofs.Seek.{read-seek}
@@ -87,7 +87,7 @@ told-wide i j i′ j′ R d ps hi hj (says b rs) s = (kept-wide i j i′ j′ R 
 -- a check of any node, over any ascending lists and from any places
 module _ (ls : List (List ℕ)) (up : (k : ℕ) → Up 0 (getD ls k [])) where
   mutual
-    unfolding check-node residual size
+    unfolding check-by residual size
 
     pub check-is : (t : Tree) (i : ℕ) → Tells self i (i + size t) (residual ls t i) (check-node ls t i)
     check-is (leaf k) i = λ d rs dt jl.

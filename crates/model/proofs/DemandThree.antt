@@ -14,7 +14,7 @@ use Rattle.model.specs.Lists.{top, Numbers, Lent, lists-of}
 use Rattle.model.specs.Expression.{size}
 use Rattle.model.specs.Sets.{members}
 use Rattle.model.specs.Machine.{Call, next, call, calls, machine, encode}
-use Rattle.model.specs.Run.{Start, starting, Low, Result, run, begin, steps, Source, named-in, source-of, run-of}
+use Rattle.model.specs.Run.{Start, starting, Low, Result, run, begin, steps, Source, named-in, source-of, run-of, run-by}
 use Rattle.model.specs.Forms.{read-packed}
 use Rattle.model.specs.Calls.{run-call}
 use Rattle.model.specs.Demands.{lengths, ran-all, Sound-run, Drawn, Broken, Demand-three, Third-demand, Third-demand-met}
@@ -22,7 +22,7 @@ use Rattle.model.proofs.Order.{and-true, Up}
 use Rattle.model.proofs.Denoted.{up-ascending, members-up, members-from, members-from-up, members-from-are}
 use Rattle.model.proofs.Plain.{machine-append, draws}
 use Rattle.model.proofs.Join.{Small, All-small, join, last-low}
-use Rattle.model.proofs.Places.{sum-le, counted-run, summed-run}
+use Rattle.model.proofs.Places.{sum-le, counted-run}
 use Rattle.model.proofs.Accepted.{bound, required, accepted-up, packed-reads}
 
 -- ---- calls
@@ -125,7 +125,7 @@ module _ (l : Lent) (expression : List ℕ) (n : Numbers (l .numbers)) (s : Sour
 
   pub ran : (start : Start) (codes ds lent : List ℕ) → Low start → length codes ≡ length ds → length codes ≤ length lent
       → Sound-run l expression s start codes ds lent (run (s .lists) (s .tree) start (calls codes ds))
-  unfolding run
+  unfolding run-by
   ran start codes ds lent h₁ h₂ h₃ =
       let a = accepts start codes ds (length lent) h₁ h₂ h₃ in
       let c = counted-run (s .lists) (s .tree) small start (calls codes ds) in
@@ -134,7 +134,7 @@ module _ (l : Lent) (expression : List ℕ) (n : Numbers (l .numbers)) (s : Sour
         sends = run-sends l expression start codes ds lent _ a;
         by-the-steps = refl;
         bounded = omega (arith, c .covered, sum-le (steps (s .lists) (s .tree) (begin start) (calls codes ds) .1 .readers .places) (lengths (map length (s .lists)) (s .tree)) (c .within));
-        summed = summed-run (s .lists) (s .tree) small start (calls codes ds);
+        summed = c .covered;
         places = c .long;
         inside = c .within;
       }

@@ -10,7 +10,7 @@ use lib.ListN.{getD, length}
 use borrow.Author.Tests.{ltb-true}
 use Rattle.model.specs.Lists.{top}
 use Rattle.model.specs.Expression.{Tree, difference, Members, more, size, sizes}
-use Rattle.model.specs.Steps.{Readers, Found, end, at, Seek, on, fuel, differ, intersect, seek, seek-intersection, seek-rest}
+use Rattle.model.specs.Steps.{Readers, Found, end, at, Seek, on, fuel, differ, intersect, seek, seek-intersection, seek-rest, seek-by}
 use Rattle.model.proofs.Order.{Up}
 use Rattle.model.proofs.Residual.{Set, Sought, Passed, Seeks, Passes, residual, residual-all}
 use Rattle.model.proofs.Seek.{fuel-is, seek-is, rest-is}
@@ -77,14 +77,14 @@ module _ (i m j : ℕ) (F G : Set) (f g : Seek) (im : i ≤ m) (mj : m ≤ j) (F
 module _ (ls : List (List ℕ)) (up : (k : ℕ) → Up 0 (getD ls k [])) where
   pub seek-difference : (s t : Tree) (i e : ℕ) (rs : Readers) → e ≤ top → 1 + i + size s + size t ≤ length (rs .places)
       → seek ls (difference s t) i e rs ≡ differ-with (seek ls (difference s t) i) (seek ls s (1 + i)) (seek ls t (1 + i + size s)) e rs
-  unfolding seek
+  unfolding seek-by
   seek-difference s t i e rs et h =
       differ-step (1 + i) (1 + i + size s) (1 + i + size s + size t) (residual ls s (1 + i)) (residual ls t (1 + i + size s)) (seek ls s (1 + i)) (seek ls t (1 + i + size s)) (omega arith) (omega arith)
       (seek-is ls up s (1 + i)) (seek-is ls up t (1 + i + size s)) e rs et h
 
   pub seek-members : (t : Tree) (ts : Members) (i e : ℕ) (rs : Readers) → e ≤ top → i + size t + sizes ts ≤ length (rs .places)
       → seek-intersection ls (more t ts) i e rs ≡ intersect-with (seek-intersection ls (more t ts) i) (seek ls t i) (seek-rest ls ts (i + size t)) e rs
-  unfolding seek
+  unfolding seek-by
   seek-members t ts i e rs et h =
       intersect-step i (i + size t) (i + size t + sizes ts) (residual ls t i) (residual-all ls ts (i + size t)) (seek ls t i) (seek-rest ls ts (i + size t)) (omega arith) (omega arith)
       (seek-is ls up t i) (rest-is ls up ts (i + size t)) e rs et h

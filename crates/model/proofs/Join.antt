@@ -18,7 +18,7 @@ use Rattle.model.specs.Expression.{Tree, leaf, difference, union, inters
 use Rattle.model.specs.Sets.{among, member, member-some, member-all, members}
 use Rattle.model.specs.Machine.{Call, next, at-or-past, past, check, other, draw, reply, machine}
 use Rattle.model.specs.Steps.{Readers, Found, end, at, Checked, says, seek, check-node}
-use Rattle.model.specs.Run.{State, drawn, told, step, steps, Start, Low, begin, run}
+use Rattle.model.specs.Run.{State, drawn, told, step, steps, Start, Low, begin, run, step-by, run-by, steps-by}
 use Rattle.model.proofs.Order.{Up, untouched, none-moved}
 use Rattle.model.proofs.Residual.{After, Sought, residual, residual-some, residual-all}
 use Rattle.model.proofs.Seek.{seek-is}
@@ -109,7 +109,7 @@ module _ (ls : List (List ℕ)) (up : (k : ℕ) → Up 0 (getD ls k [])) (t : Tr
       }
 
   step-joined : (s : State) → Ok s → (c : Call) → Small c → Joined (step ls t s c) (reply set (s .floor) c)
-  unfolding step reply
+  unfolding step-by reply
   step-joined s o next h = seek-joined s o (s .floor) (omega arith) (o .low)
   step-joined s o (at-or-past d) h = seek-joined s o (max (s .floor) d) (omega arith) (omega (arith, o .low))
   step-joined s o (past d) h = seek-joined s o (max (s .floor) (suc d)) (omega arith) (omega (arith, o .low))
@@ -132,7 +132,7 @@ module _ (ls : List (List ℕ)) (up : (k : ℕ) → Up 0 (getD ls k [])) (t : Tr
   joined-cons a b j cs r = record { same = cc (j .same, j .floors, r .same); floors = cc (j .floors, r .floors); ok = r .ok }
 
   all-joined : (cs : List Call) → All-small cs → (s : State) → Ok s → All-joined (steps ls t s cs) (machine set (s .floor) cs)
-  unfolding steps machine
+  unfolding steps-by machine
   all-joined [] h s o = record { same = refl; floors = refl; ok = o }
   all-joined (c ∷ cs) h s o =
       let j = step-joined s o c (h .0) in
@@ -144,12 +144,12 @@ module _ (ls : List (List ℕ)) (up : (k : ℕ) → Up 0 (getD ls k [])) (t : Tr
 
   -- the join: a run's replies and bookmark are the plain machine's
   pub join : (b : Start) → Low b → size t ≤ 48 → (cs : List Call) → All-small cs → (run ls t b cs .replies, run ls t b cs .last .bookmark) ≡ machine set (b .bookmark) cs
-  unfolding run
+  unfolding run-by
   join b bt st cs h = let r = from-begin b bt st cs h in λ k. (r .same k, r .floors k)
 
   -- and where it ends a run can begin again
   pub last-low : (b : Start) → Low b → size t ≤ 48 → (cs : List Call) → All-small cs → Low (run ls t b cs .last)
-  unfolding run
+  unfolding run-by
   last-low b bt st cs h = from-begin b bt st cs h .ok .low
 
 -- a check by readers at the start says whether the number is a member
@@ -166,7 +166,7 @@ pub record Between (ls : List (List ℕ)) (t : Tree) (s : State) : Type 0 where
   ok : Ok ls up t s
 
 pub begins : (ls : List (List ℕ)) → ((k : ℕ) → Up 0 (getD ls k [])) → (t : Tree) (b : Start) → Low b → size t ≤ 48 → Between ls t (begin b)
-unfolding steps
+unfolding steps-by
 begins ls up t b bt st = record { up = up; ok = from-begin ls up t b bt st [] tt .ok }
 
 -- a next, where ms are the members at or above the floor: the first of them, and the others are left

@@ -1,6 +1,7 @@
 -- The theory about the definitions.
 pub mod Table
 pub mod Order
+pub mod Hops
 pub mod Residual
 pub mod Seek
 pub mod Check

@@ -1,5 +1,5 @@
 -- Places and moves: no place passes its list's end, places are 0 at operators and unused nodes, moves are within the sum of
--- the places, and so at most the summed lengths of the lists at the leaves; and they are that sum.
+-- the places, and so at most the summed lengths of the lists at the leaves; of readers that move singly they are that sum.
 --
 -- What every reader's step keeps every operator's does. Assumes nothing.
 use mathlib.Core.Path.{_≡_, refl, ap, _∙_}
@@ -15,10 +15,11 @@ use Rattle.model.specs.declared.Reply.{Reply}
 use Rattle.model.specs.declared.Reply.the-variants.{No}
 use Rattle.model.specs.Expression.{Tree, leaf, difference, union, intersection, Members, one, more, size, sizes}
 use Rattle.model.specs.Machine.{Call, next, at-or-past, past, check, other}
-use Rattle.model.specs.Steps.{Readers, Found, end, at, Seek, Checked, says, Check, passed, moves-to, answer, read, fuel, differ, unite, follow, intersect, seek, seek-union, seek-intersection, seek-rest, is-at, turned, on-yes, on-no, check-node, check-union, check-intersection}
-use Rattle.model.specs.Run.{State, drawn, told, step, steps, Start, begin}
+use Rattle.model.specs.Steps.{Readers, Found, end, at, Seek, Checked, says, Check, Progress, Advance, singly, hopping, answer, read-by, read, fuel, differ, unite, follow, intersect, seek-by, seek-union-by, seek-intersection-by, seek-rest-by, is-at, turned, on-yes, on-no, check-by, check-union-by, check-intersection-by, passed}
+use Rattle.model.specs.Run.{State, drawn, told, step-by, steps-by, steps, Start, begin}
 use Rattle.model.specs.Demands.{lengths, lengths-all, sum}
 use Rattle.model.proofs.Order.{none-moved}
+use Rattle.model.proofs.Hops.{grown-le, moves-le}
 use Rattle.model.proofs.Seek.{on-case, test-case}
 
 -- ---- what the readers keep, every seek and check keeps
@@ -90,11 +91,11 @@ module _ (P : Readers → Type 0) where
   no-holds (says true rs) g kg h = h
   no-holds (says false rs) g kg h = kg rs h
 
-  -- of a tree whose readers keep it: `leaves-keep` says so of each leaf
-  module _ (ls : List (List ℕ)) where
+  -- of a tree whose readers keep it, whichever way they go: `leaves-keep` says so of each leaf
+  module _ (advance : Advance) (ls : List (List ℕ)) where
     abbrev mutual
       pub Leaves-keep : Tree → ℕ → Type 0
-      Leaves-keep (leaf k) i = Keeps (read (getD ls k []) i)
+      Leaves-keep (leaf k) i = Keeps (read-by advance (getD ls k []) i)
       Leaves-keep (difference s t) i = Leaves-keep s (1 + i) × Leaves-keep t (1 + i + size s)
       Leaves-keep (union ts) i = All-keep ts (1 + i)
       Leaves-keep (intersection ts) i = All-keep ts (1 + i)
@@ -104,43 +105,43 @@ module _ (P : Readers → Type 0) where
       All-keep (more t ts) i = Leaves-keep t i × All-keep ts (i + size t)
 
     mutual
-      unfolding seek
+      unfolding seek-by
 
-      pub seek-keeps : (t : Tree) (i : ℕ) → Leaves-keep t i → Keeps (seek ls t i)
+      pub seek-keeps : (t : Tree) (i : ℕ) → Leaves-keep t i → Keeps (seek-by advance ls t i)
       seek-keeps (leaf k) i h = h
-      seek-keeps (difference s t) i h = differ-keeps (seek ls s (1 + i)) (seek ls t (1 + i + size s)) (seek-keeps s (1 + i) (h .0)) (seek-keeps t (1 + i + size s) (h .1)) fuel
+      seek-keeps (difference s t) i h = differ-keeps (seek-by advance ls s (1 + i)) (seek-by advance ls t (1 + i + size s)) (seek-keeps s (1 + i) (h .0)) (seek-keeps t (1 + i + size s) (h .1)) fuel
       seek-keeps (union ts) i h = union-keeps ts (1 + i) h
       seek-keeps (intersection ts) i h = intersection-keeps ts (1 + i) h
 
-      union-keeps : (ts : Members) (i : ℕ) → All-keep ts i → Keeps (seek-union ls ts i)
+      union-keeps : (ts : Members) (i : ℕ) → All-keep ts i → Keeps (seek-union-by advance ls ts i)
       union-keeps (one t) i h = seek-keeps t i h
-      union-keeps (more t ts) i h = unite-keeps (seek ls t i) (seek-union ls ts (i + size t)) (seek-keeps t i (h .0)) (union-keeps ts (i + size t) (h .1))
+      union-keeps (more t ts) i h = unite-keeps (seek-by advance ls t i) (seek-union-by advance ls ts (i + size t)) (seek-keeps t i (h .0)) (union-keeps ts (i + size t) (h .1))
 
-      intersection-keeps : (ts : Members) (i : ℕ) → All-keep ts i → Keeps (seek-intersection ls ts i)
+      intersection-keeps : (ts : Members) (i : ℕ) → All-keep ts i → Keeps (seek-intersection-by advance ls ts i)
       intersection-keeps (one t) i h = seek-keeps t i h
-      intersection-keeps (more t ts) i h = intersect-keeps (seek ls t i) (seek-rest ls ts (i + size t)) (seek-keeps t i (h .0)) (rest-keeps ts (i + size t) (h .1)) fuel
+      intersection-keeps (more t ts) i h = intersect-keeps (seek-by advance ls t i) (seek-rest-by advance ls ts (i + size t)) (seek-keeps t i (h .0)) (rest-keeps ts (i + size t) (h .1)) fuel
 
-      rest-keeps : (ts : Members) (i : ℕ) → All-keep ts i → Keeps (seek-rest ls ts i)
+      rest-keeps : (ts : Members) (i : ℕ) → All-keep ts i → Keeps (seek-rest-by advance ls ts i)
       rest-keeps (one t) i h = seek-keeps t i h
-      rest-keeps (more t ts) i h = follow-keeps (seek ls t i) (seek-rest ls ts (i + size t)) (seek-keeps t i (h .0)) (rest-keeps ts (i + size t) (h .1))
+      rest-keeps (more t ts) i h = follow-keeps (seek-by advance ls t i) (seek-rest-by advance ls ts (i + size t)) (seek-keeps t i (h .0)) (rest-keeps ts (i + size t) (h .1))
 
     mutual
-      unfolding check-node
+      unfolding check-by
 
-      pub check-holds : (t : Tree) (i : ℕ) → Leaves-keep t i → Holds (check-node ls t i)
-      check-holds (leaf k) i h = λ d rs w. is-at-holds d (read (getD ls k []) i d rs) (h d rs w)
+      pub check-holds : (t : Tree) (i : ℕ) → Leaves-keep t i → Holds (check-by advance ls t i)
+      check-holds (leaf k) i h = λ d rs w. is-at-holds d (read-by advance (getD ls k []) i d rs) (h d rs w)
       check-holds (difference s t) i h = λ d rs w.
-          yes-holds (check-node ls s (1 + i) d rs) _ (λ rs₁ v. turned-holds (check-node ls t (1 + i + size s) d rs₁) (check-holds t (1 + i + size s) (h .1) d rs₁ v)) (check-holds s (1 + i) (h .0) d rs w)
+          yes-holds (check-by advance ls s (1 + i) d rs) _ (λ rs₁ v. turned-holds (check-by advance ls t (1 + i + size s) d rs₁) (check-holds t (1 + i + size s) (h .1) d rs₁ v)) (check-holds s (1 + i) (h .0) d rs w)
       check-holds (union ts) i h = some-holds ts (1 + i) h
       check-holds (intersection ts) i h = all-holds ts (1 + i) h
 
-      some-holds : (ts : Members) (i : ℕ) → All-keep ts i → Holds (check-union ls ts i)
+      some-holds : (ts : Members) (i : ℕ) → All-keep ts i → Holds (check-union-by advance ls ts i)
       some-holds (one t) i h = check-holds t i h
-      some-holds (more t ts) i h = λ d rs w. no-holds (check-node ls t i d rs) (check-union ls ts (i + size t) d) (some-holds ts (i + size t) (h .1) d) (check-holds t i (h .0) d rs w)
+      some-holds (more t ts) i h = λ d rs w. no-holds (check-by advance ls t i d rs) (check-union-by advance ls ts (i + size t) d) (some-holds ts (i + size t) (h .1) d) (check-holds t i (h .0) d rs w)
 
-      all-holds : (ts : Members) (i : ℕ) → All-keep ts i → Holds (check-intersection ls ts i)
+      all-holds : (ts : Members) (i : ℕ) → All-keep ts i → Holds (check-intersection-by advance ls ts i)
       all-holds (one t) i h = check-holds t i h
-      all-holds (more t ts) i h = λ d rs w. yes-holds (check-node ls t i d rs) (check-intersection ls ts (i + size t) d) (all-holds ts (i + size t) (h .1) d) (check-holds t i (h .0) d rs w)
+      all-holds (more t ts) i h = λ d rs w. yes-holds (check-by advance ls t i d rs) (check-intersection-by advance ls ts (i + size t) d) (all-holds ts (i + size t) (h .1) d) (check-holds t i (h .0) d rs w)
 
     -- and so a whole list of calls keeps it
     module _ (t : Tree) (h : Leaves-keep t 0) where
@@ -153,25 +154,25 @@ module _ (P : Readers → Type 0) where
       unfolding told
       told-keeps d (says b rs) p = p
 
-      step-keeps : (s : State) (c : Call) → P (s .readers) → P (step ls t s c .1 .readers)
-      unfolding step
-      step-keeps s next p = drawn-keeps (seek ls t 0 (s .floor) (s .readers)) (seek-keeps t 0 h (s .floor) (s .readers) p)
-      step-keeps s (at-or-past d) p = drawn-keeps (seek ls t 0 (max (s .floor) d) (s .readers)) (seek-keeps t 0 h (max (s .floor) d) (s .readers) p)
-      step-keeps s (past d) p = drawn-keeps (seek ls t 0 (max (s .floor) (suc d)) (s .readers)) (seek-keeps t 0 h (max (s .floor) (suc d)) (s .readers) p)
+      step-keeps : (s : State) (c : Call) → P (s .readers) → P (step-by advance ls t s c .1 .readers)
+      unfolding step-by
+      step-keeps s next p = drawn-keeps (seek-by advance ls t 0 (s .floor) (s .readers)) (seek-keeps t 0 h (s .floor) (s .readers) p)
+      step-keeps s (at-or-past d) p = drawn-keeps (seek-by advance ls t 0 (max (s .floor) d) (s .readers)) (seek-keeps t 0 h (max (s .floor) d) (s .readers) p)
+      step-keeps s (past d) p = drawn-keeps (seek-by advance ls t 0 (max (s .floor) (suc d)) (s .readers)) (seek-keeps t 0 h (max (s .floor) (suc d)) (s .readers) p)
       step-keeps s (check d) p = go (ltb d (s .floor))
         where
           after : Bool → Reply × State
-          after b = elim b [ true ↦ (No, s) | false ↦ told d (check-node ls t 0 d (s .readers)) ]
+          after b = elim b [ true ↦ (No, s) | false ↦ told d (check-by advance ls t 0 d (s .readers)) ]
 
           go : (b : Bool) → P (after b .1 .readers)
           go true = p
-          go false = told-keeps d (check-node ls t 0 d (s .readers)) (check-holds t 0 h d (s .readers) p)
+          go false = told-keeps d (check-by advance ls t 0 d (s .readers)) (check-holds t 0 h d (s .readers) p)
       step-keeps s other p = p
 
-      pub steps-keep : (cs : List Call) (s : State) → P (s .readers) → P (steps ls t s cs .1 .readers)
-      unfolding steps
+      pub steps-keep : (cs : List Call) (s : State) → P (s .readers) → P (steps-by advance ls t s cs .1 .readers)
+      unfolding steps-by
       steps-keep [] s p = p
-      steps-keep (c ∷ cs) s p = steps-keep cs (step ls t s c .1) (step-keeps s c p)
+      steps-keep (c ∷ cs) s p = steps-keep cs (step-by advance ls t s c .1) (step-keeps s c p)
 
 -- ---- one reader's step
 
@@ -187,31 +188,17 @@ sum-le [] bounds h = omega arith
 sum-le (p ∷ ps) [] h = omega (arith, h 0, sum-le ps [] (λ k. h (suc k)))
 sum-le (p ∷ ps) (b ∷ bs) h = omega (arith, h 0, sum-le ps bs (λ k. h (suc k)))
 
-pub passed-le : (l : List ℕ) (e : ℕ) → passed l e ≤ length l
-unfolding passed
-passed-le [] e = omega arith
-passed-le (x ∷ xs) e = go (ltb x e) (passed-le xs e)
-  where
-    go : (b : Bool) → passed xs e ≤ length xs → elim b [ true ↦ suc (passed xs e) | false ↦ 0 ] ≤ suc (length xs)
-    go true h = omega arith
-    go false h = omega arith
-
--- each place that is passed counts as one move; what needs no more than a bound asks only the second
-pub moves-all : (left : List ℕ) (e : ℕ) → moves-to left e ≡ passed left e
-unfolding moves-to
-moves-all left e = refl
-
-pub moves-le : (left : List ℕ) (e : ℕ) → moves-to left e ≤ passed left e
-moves-le left e = omega (arith, moves-all left e)
-
 -- what a step of the node i's reader keeps is what the place and the moves that it comes to keep
-read-kept : (P : Readers → Type 0) (l : List ℕ) (i e : ℕ) (rs : Readers)
-    → P (record { places = set (rs .places) i (getD (rs .places) i 0 + passed (drop (getD (rs .places) i 0) l) e); moves = rs .moves + moves-to (drop (getD (rs .places) i 0) l) e })
-    → P (readers-of (read l i e rs))
-unfolding read answer
-read-kept P l i e rs h = go (drop (getD (rs .places) i 0 + passed (drop (getD (rs .places) i 0) l) e) l)
+read-kept : (advance : Advance) (P : Readers → Type 0) (l : List ℕ) (i e : ℕ) (rs : Readers)
+    → (let went = advance (drop (getD (rs .places) i 0) l) e in P (record { places = set (rs .places) i (getD (rs .places) i 0 + went .grown); moves = rs .moves + went .moves }))
+    → P (readers-of (read-by advance l i e rs))
+unfolding read-by answer
+read-kept advance P l i e rs h = go (drop (getD (rs .places) i 0 + went .grown) l)
   where
-    go : (r : List ℕ) → P (readers-of (answer r (record { places = set (rs .places) i (getD (rs .places) i 0 + passed (drop (getD (rs .places) i 0) l) e); moves = rs .moves + moves-to (drop (getD (rs .places) i 0) l) e })))
+    went : Progress
+    went = advance (drop (getD (rs .places) i 0) l) e
+
+    go : (r : List ℕ) → P (readers-of (answer r (record { places = set (rs .places) i (getD (rs .places) i 0 + went .grown); moves = rs .moves + went .moves })))
     go [] = h
     go (y ∷ ys) = h
 
@@ -225,23 +212,23 @@ pub record Counted (bounds : List ℕ) (rs : Readers) : Type 0 where
 
 -- a reader of a list as long as its bound keeps it
 counted-keeps : (bounds l : List ℕ) (i : ℕ) → i < 48 → getD bounds i 0 ≡ length l → Keeps (Counted bounds) (read l i)
-counted-keeps bounds l i h b e rs c = read-kept (Counted bounds) l i e rs (record {
+counted-keeps bounds l i h b e rs c = read-kept hopping (Counted bounds) l i e rs (record {
   long = length-set (rs .places) i (place + n) ∙ c .long;
   within = within;
-  covered = omega (arith, sum-set (rs .places) i n inside, c .covered, moves-le (drop place l) e);
+  covered = omega (arith, sum-set (rs .places) i n inside, c .covered, moves-le e (drop place l));
 })
   where
     place : ℕ
     place = getD (rs .places) i 0
 
     n : ℕ
-    n = passed (drop place l) e
+    n = hopping (drop place l) e .grown
 
     inside : i < length (rs .places)
     inside = omega (arith, c .long)
 
     small : place + n ≤ getD bounds i 0
-    small = omega (arith, passed-le (drop place l) e, length-drop place l, c .within i)
+    small = omega (arith, grown-le e (drop place l), length-drop place l, c .within i)
 
     within : (k : ℕ) → getD (set (rs .places) i (place + n)) k 0 ≤ getD bounds k 0
     within k = to (ℕ-discrete k i)
@@ -250,15 +237,16 @@ counted-keeps bounds l i h b e rs c = read-kept (Counted bounds) l i e rs (recor
         to (yes q) = rw (q, getD-set-same (rs .places) i (place + n) 0 inside) small
         to (no q) = rw (getD-set-other (rs .places) i k (place + n) 0 q) (c .within k)
 
--- "Moves are the sum of the places"
+-- where readers move singly, "Moves are the sum of the places"
 abbrev Summed : Readers → Type 0
 Summed rs = (length (rs .places) ≡ 48) × (rs .moves ≡ sum (rs .places))
 
-summed-keeps : (l : List ℕ) (i : ℕ) → i < 48 → Keeps Summed (read l i)
+summed-keeps : (l : List ℕ) (i : ℕ) → i < 48 → Keeps Summed (read-by singly l i)
+unfolding singly
 summed-keeps l i h e rs c =
     let place : ℕ = getD (rs .places) i 0 in
     let n : ℕ = passed (drop place l) e in
-    read-kept Summed l i e rs (length-set (rs .places) i (place + n) ∙ c .0, omega (arith, sum-set (rs .places) i n (omega (arith, c .0)), c .1, moves-all (drop place l) e))
+    read-kept singly Summed l i e rs (length-set (rs .places) i (place + n) ∙ c .0, omega (arith, sum-set (rs .places) i n (omega (arith, c .0)), c .1))
 
 -- ---- each leaf's bound in the row of lengths
 
@@ -296,14 +284,14 @@ list-length (l ∷ ls) zero = refl
 list-length (l ∷ ls) (suc k) = list-length ls k
 
 -- of what every reader within the 48 places keeps whose list is as long as its bound
-module _ (ls : List (List ℕ)) (P : Readers → Type 0) (bounds : List ℕ) (keeps : (l : List ℕ) (i : ℕ) → i < 48 → getD bounds i 0 ≡ length l → Keeps P (read l i)) where
+module _ (advance : Advance) (ls : List (List ℕ)) (P : Readers → Type 0) (bounds : List ℕ) (keeps : (l : List ℕ) (i : ℕ) → i < 48 → getD bounds i 0 ≡ length l → Keeps P (read-by advance l i)) where
   abbrev ns : List ℕ
   ns = map length ls
 
   mutual
     unfolding lengths size
 
-    leaves-keep : (t : Tree) (i : ℕ) → i + size t ≤ 48 → Stands bounds i (lengths ns t) → Leaves-keep P ls t i
+    leaves-keep : (t : Tree) (i : ℕ) → i + size t ≤ 48 → Stands bounds i (lengths ns t) → Leaves-keep P advance ls t i
     leaves-keep (leaf k) i h s = keeps (getD ls k []) i (omega arith) (ap (λ (n : ℕ). getD bounds n 0) (omega arith) ∙ s 0 (omega arith) ∙ list-length ls k)
     leaves-keep (difference a b) i h s =
         let s′ : Stands bounds (1 + i) (lengths ns a ++ lengths ns b) = stands-tail bounds (lengths ns a ++ lengths ns b) i 0 s in (
@@ -313,7 +301,7 @@ module _ (ls : List (List ℕ)) (P : Readers → Type 0) (bounds : List ℕ) (ke
     leaves-keep (union ts) i h s = all-keep ts (1 + i) (omega arith) (stands-tail bounds (lengths-all ns ts) i 0 s)
     leaves-keep (intersection ts) i h s = all-keep ts (1 + i) (omega arith) (stands-tail bounds (lengths-all ns ts) i 0 s)
 
-    all-keep : (ts : Members) (i : ℕ) → i + sizes ts ≤ 48 → Stands bounds i (lengths-all ns ts) → All-keep P ls ts i
+    all-keep : (ts : Members) (i : ℕ) → i + sizes ts ≤ 48 → Stands bounds i (lengths-all ns ts) → All-keep P advance ls ts i
     all-keep (one t) i h s = leaves-keep t i h s
     all-keep (more t ts) i h s = (
       leaves-keep t i (omega arith) (stands-left bounds (lengths ns t) (lengths-all ns ts) i s),
@@ -333,10 +321,10 @@ module _ (ls : List (List ℕ)) (t : Tree) (h : size t ≤ 48) (start : Start) (
 
   pub counted-run : Counted bounds after
   unfolding begin
-  counted-run = steps-keep (Counted bounds) ls t (leaves-keep ls (Counted bounds) bounds (counted-keeps bounds) t 0 (omega arith) whole) cs (begin start)
+  counted-run = steps-keep (Counted bounds) hopping ls t (leaves-keep hopping ls (Counted bounds) bounds (counted-keeps bounds) t 0 (omega arith) whole) cs (begin start)
       (record { long = refl; within = λ k. omega (arith, none-moved k); covered = omega arith })
 
-  -- what demand 3 says of them beside
-  pub summed-run : after .moves ≡ sum (after .places)
+  -- of readers that move singly
+  pub summed-run : let single = steps-by singly ls t (begin start) cs .1 .readers in single .moves ≡ sum (single .places)
   unfolding begin sum
-  summed-run = steps-keep Summed ls t (leaves-keep ls Summed bounds (λ l i q b. summed-keeps l i q) t 0 (omega arith) whole) cs (begin start) (refl, refl) .1
+  summed-run = steps-keep Summed singly ls t (leaves-keep singly ls Summed bounds (λ l i q b. summed-keeps l i q) t 0 (omega arith) whole) cs (begin start) (refl, refl) .1

@@ -12,8 +12,9 @@ use lib.Seq.{drop-nil, getD-set-same, getD-set-other, drop-drop}
 use Rattle.model.specs.Lists.{top}
 use Rattle.model.specs.Expression.{Tree, leaf, difference, union, intersection, Members, one, more, size, sizes}
 use Rattle.model.specs.Sets.{among}
-use Rattle.model.specs.Steps.{Readers, Found, end, at, Seek, on, passed, moves-to, answer, read, fuel, differ, unite, follow, intersect, seek, seek-union, seek-intersection, seek-rest}
+use Rattle.model.specs.Steps.{Readers, Found, end, at, Seek, on, passed, Progress, hopping, answer, read, fuel, differ, unite, follow, intersect, seek, seek-union, seek-intersection, seek-rest, read-by, seek-by}
 use Rattle.model.proofs.Order.{or-right, and-right, split, min-case, Up, up-drop, up-none}
+use Rattle.model.proofs.Hops.{passed-on, passed-off, grown-same}
 use Rattle.model.proofs.Denoted.{from, from-up, from-among}
 use Rattle.model.proofs.Residual.{Set, Local, After, None, Least, Sought, Seeks, Passed, Passes, sought-passed, sought-wide, passed-wide, again, left-of, residual, residual-some, residual-all, residual-local, some-local, all-local}
 
@@ -258,13 +259,6 @@ module _ (i m j : ℕ) (F G : Set) (im : i ≤ m) (mj : m ≤ j) (Fl : Local i m
       (λ y rs₂ h₁ h₂ h₃. inter-seek f g Ff Gg n y rs₂ (omega (arith, s .1 .from)) (omega arith) h₃))
 
 -- reader
-pub passed-on : (y : ℕ) (ys : List ℕ) (e : ℕ) → ltb y e ≡ true → passed (y ∷ ys) e ≡ suc (passed ys e)
-unfolding passed
-passed-on y ys e h = rw (h, passed)
-
-pub passed-off : (y : ℕ) (ys : List ℕ) (e : ℕ) → ltb y e ≡ false → passed (y ∷ ys) e ≡ 0
-unfolding passed
-passed-off y ys e h = rw (h, passed)
 
 -- the moves to e over an ascending list leave what is at or above e, and nothing below
 passed-from : (l : List ℕ) (e : ℕ) → drop (passed l e) l ≡ from e l
@@ -277,7 +271,7 @@ passed-from (y ∷ ys) e = go (ltb y e) refl (passed-from ys e)
     go false q ih = rw (passed-off y ys e q) refl
 
 pub read-seek : (l : List ℕ) (i : ℕ) → Up 0 l → Seeks i (suc i) (left-of l i) (read l i)
-unfolding read answer among
+unfolding read-by answer among
 read-seek l i u e rs et il = go (drop p l) refl
   where
     ps : List ℕ
@@ -286,11 +280,14 @@ read-seek l i u e rs et il = go (drop p l) refl
     p₀ : ℕ
     p₀ = getD ps i 0
 
+    went : Progress
+    went = hopping (drop p₀ l) e
+
     p : ℕ
-    p = p₀ + passed (drop p₀ l) e
+    p = p₀ + went .grown
 
     rest : drop p l ≡ from e (drop p₀ l)
-    rest = sym (drop-drop (passed (drop p₀ l) e) p₀ l) ∙ passed-from (drop p₀ l) e
+    rest = sym (drop-drop (went .grown) p₀ l) ∙ ap (λ (n : ℕ). drop n (drop p₀ l)) (grown-same e 0 (drop p₀ l) (up-drop 0 p₀ l u)) ∙ passed-from (drop p₀ l) e
 
     up : Up e (drop p l)
     up = rw rest (from-up e 0 (drop p₀ l) (up-drop 0 p₀ l u))
@@ -313,7 +310,7 @@ read-seek l i u e rs et il = go (drop p l) refl
     }
 
     moved : Readers
-    moved = record { places = set ps i p; moves = rs .moves + moves-to (drop p₀ l) e }
+    moved = record { places = set ps i p; moves = rs .moves + went .moves }
 
     go : (r : List ℕ) → drop p l ≡ r → Sought i (suc i) (left-of l i) e ps (answer r moved)
     go [] q = (after, λ x h. sym (above x h) ∙ ap (among x) q)
@@ -330,7 +327,7 @@ read-seek l i u e rs et il = go (drop p l) refl
 -- a seek of any node, over any ascending lists and from any places
 module _ (ls : List (List ℕ)) (up : (k : ℕ) → Up 0 (getD ls k [])) where
   mutual
-    unfolding seek residual size
+    unfolding seek-by residual size
 
     pub seek-is : (t : Tree) (i : ℕ) → Seeks i (i + size t) (residual ls t i) (seek ls t i)
     seek-is (leaf k) i = λ e rs et jl.

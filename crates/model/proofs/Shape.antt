@@ -11,7 +11,7 @@ use Rattle.model.specs.Outcome.{Outcome, refused, accepted, Sent, Succes
 use Rattle.model.specs.Lists.{count-holds, Lent, lists-of}
 use Rattle.model.specs.Expression.{Tree, leaf, difference, union, intersection, Members, one, more, size, sizes}
 use Rattle.model.specs.Machine.{Call, calls, encode}
-use Rattle.model.specs.Run.{State, step, steps, Start, starting, begin, Result, run, named-in, run-of}
+use Rattle.model.specs.Run.{State, step, steps, Start, starting, begin, Result, run, named-in, run-of, run-by, steps-by}
 use Rattle.model.specs.Forms.{nodes, nodes-all, row-byte, row, packed, there, read-row, read-packed}
 use Rattle.model.specs.Delivery.{by-count, came, supplied-numbers, all-delivered, by-bit, read-stored, delivery, read-delivery, old-delivery, supplied}
 use Rattle.model.specs.Calls.{unpack-expression, pack-expression, decode-delivery, stored, encode-delivery, upgrade-delivery, downgrade-delivery, run-parts, run-size, run-call}
@@ -66,7 +66,7 @@ row-long t = length-map (nodes t) row-byte ∙ nodes-long t
 
 -- a run has one reply for each call
 steps-long : (ls : List (List ℕ)) (t : Tree) (s : State) (cs : List Call) → length (steps ls t s cs .0) ≡ length cs
-unfolding steps
+unfolding steps-by
 steps-long ls t s [] = refl
 steps-long ls t s (c ∷ cs) = ap suc (steps-long ls t (step ls t s c .1) cs)
 
@@ -77,7 +77,7 @@ calls-long (c ∷ cs) [] h = absurd (omega arith)
 calls-long (c ∷ cs) (d ∷ ds) h = ap suc (calls-long cs ds (omega arith))
 
 pub replies-long : (ls : List (List ℕ)) (t : Tree) (start : Start) (codes ds : List ℕ) → length codes ≡ length ds → length (run ls t start (calls codes ds) .replies) ≡ length codes
-unfolding run
+unfolding run-by
 replies-long ls t start codes ds h = steps-long ls t (begin start) (calls codes ds) ∙ calls-long codes ds h
 
 -- ---- the calls
@@ -133,7 +133,7 @@ parts-long moves places last h = omega (arith, length-append places (last .bookm
 
 run-fits : (l : Lent) (expression : List ℕ) (start : Start) (codes ds lent : List ℕ) (got : Result) → Accepted-run l expression start codes ds (length lent) got
     → Fits run-size (lent ∷ []) (record { parts = run-parts (got .moves) (got .places) (got .last); written = map encode (got .replies) ∷ [] })
-unfolding run
+unfolding run-by
 run-fits l expression start codes ds lent got r =
     let ls = r .source .lists in
     let t = r .source .tree in

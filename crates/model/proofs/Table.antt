@@ -13,7 +13,7 @@ use Rattle.model.specs.Outcome.{refused, accepted, Sent, sent, over}
 use Rattle.model.specs.Lists
 use Rattle.model.specs.Expression.{Tree, leaf, difference, union, intersection, Members, one, more, size, sizes, count}
 use Rattle.model.specs.Sets
-use Rattle.model.specs.Machine.{Call, next, check, call, calls, draw, reply, machine, encode}
+use Rattle.model.specs.Machine.{Call, next, at-or-past, past, check, call, calls, draw, reply, machine, encode}
 use Rattle.model.specs.Steps
 use Rattle.model.specs.Run
 use Rattle.model.specs.Run.{starting, Result, run, run-of}
@@ -41,7 +41,7 @@ unfolding Sets.all-numbers Sets.member Sets.among Sets.members Sets.select Sets.
 opens-machine = tt
 
 opens-steps : Unit {0}
-unfolding Steps.seek Steps.check-node Steps.read Steps.answer Steps.passed Steps.moves-to Steps.fuel Steps.differ Steps.unite Steps.follow Steps.intersect Steps.is-at Steps.turned Steps.on-yes Steps.on-no run Run.begin Run.steps Run.step Run.drawn Run.told run-of Run.source-of
+unfolding Steps.seek-by Steps.check-by Steps.read-by Steps.answer Steps.passed Steps.singly Steps.hops Steps.hopped Steps.hop-up-to Steps.hopping Steps.fuel Steps.differ Steps.unite Steps.follow Steps.intersect Steps.is-at Steps.turned Steps.on-yes Steps.on-no Run.run-by Run.begin Run.steps-by Run.step-by Run.drawn Run.told run-of Run.source-of
 opens-steps = tt
 
 opens-forms : Unit {0}
@@ -303,6 +303,113 @@ slips =
 pub slipping-points : map computed slips ≡ map stated slips
 unfolding computes
 slipping-points = refl
+
+-- Five's hops, over the numbers 10, 20, .. up to n tens, of which the 64th is 640 and the 128th 1280
+abbrev tens-from : ℕ → ℕ → List ℕ
+tens-from zero x = []
+tens-from (suc n) x = x ∷ tens-from n (x + 10)
+
+abbrev tens : ℕ → List ℕ
+tens n = tens-from n 10
+
+-- over so many of them, calls that are replied a member, or finished, at last; the moves and the place then
+abbrev to-number : ℕ → List Call → List Reply → ℕ → ℕ → ℕ → Row
+to-number n cs rs x moves place = record { lists = tens n ∷ []; tree = leaf 0; bookmark = 0; calls = cs; replies = rs ++ (Member x ∷ []); last = suc x; moves = moves; places = place ∷ [] }
+
+abbrev to-end : ℕ → List Call → List Reply → ℕ → ℕ → Row
+to-end n cs rs moves place = record { lists = tens n ∷ []; tree = leaf 0; bookmark = 0; calls = cs; replies = rs ++ (Finished ∷ []); last = 4294967296; moves = moves; places = place ∷ [] }
+
+abbrev pub hop-rows : List Row
+hop-rows =
+    -- 63 numbers: no hop, however far
+    to-end 63 (at-or-past 640 ∷ []) [] 63 63 ∷
+    to-end 63 (at-or-past 641 ∷ []) [] 63 63 ∷
+    to-number 63 (at-or-past 630 ∷ []) [] 630 62 62 ∷
+    -- 64, sought below the 64th, at it and above it
+    to-number 64 (at-or-past 639 ∷ []) [] 640 63 63 ∷
+    to-number 64 (at-or-past 640 ∷ []) [] 640 63 63 ∷
+    to-end 64 (at-or-past 641 ∷ []) [] 1 64 ∷
+    to-end 64 (past 640 ∷ []) [] 1 64 ∷
+    -- 65
+    to-number 65 (at-or-past 640 ∷ []) [] 640 63 63 ∷
+    to-number 65 (at-or-past 641 ∷ []) [] 650 1 64 ∷
+    to-number 65 (at-or-past 650 ∷ []) [] 650 1 64 ∷
+    to-end 65 (at-or-past 651 ∷ []) [] 2 65 ∷
+    -- 128: also below, at and above the 128th
+    to-number 128 (at-or-past 640 ∷ []) [] 640 63 63 ∷
+    to-number 128 (at-or-past 641 ∷ []) [] 650 1 64 ∷
+    to-number 128 (at-or-past 1279 ∷ []) [] 1280 64 127 ∷
+    to-number 128 (at-or-past 1280 ∷ []) [] 1280 64 127 ∷
+    to-end 128 (at-or-past 1281 ∷ []) [] 2 128 ∷
+    -- 129
+    to-number 129 (at-or-past 641 ∷ []) [] 650 1 64 ∷
+    to-number 129 (at-or-past 1280 ∷ []) [] 1280 64 127 ∷
+    to-number 129 (at-or-past 1281 ∷ []) [] 1290 2 128 ∷
+    to-end 129 (at-or-past 1291 ∷ []) [] 3 129 ∷
+    -- from a place in the middle, by the 64th from there: 650 from place 1
+    to-number 129 (at-or-past 20 ∷ at-or-past 650 ∷ []) (Member 20 ∷ []) 650 64 64 ∷
+    to-number 129 (at-or-past 20 ∷ at-or-past 651 ∷ []) (Member 20 ∷ []) 660 2 65 ∷
+    -- from place 65, with 64 left; from place 66, with 63
+    to-end 129 (at-or-past 660 ∷ past 4294967295 ∷ []) (Member 660 ∷ []) 3 129 ∷
+    to-end 129 (at-or-past 670 ∷ past 4294967295 ∷ []) (Member 670 ∷ []) 66 129 ∷
+    -- to 4,294,967,296
+    to-end 63 (past 4294967295 ∷ []) [] 63 63 ∷
+    to-end 64 (past 4294967295 ∷ []) [] 1 64 ∷
+    to-end 65 (past 4294967295 ∷ []) [] 2 65 ∷
+    to-end 128 (past 4294967295 ∷ []) [] 2 128 ∷
+    to-end 129 (past 4294967295 ∷ []) [] 3 129 ∷
+    -- in checks as in seeks
+    to-number 129 (check 640 ∷ next ∷ []) (Yes ∷ []) 640 63 63 ∷
+    to-number 129 (check 641 ∷ next ∷ []) (No ∷ []) 650 1 64 ∷
+    to-number 129 (check 1290 ∷ next ∷ []) (Yes ∷ []) 1290 2 128 ∷
+    -- and below an operator
+    record {
+      lists = (650 ∷ 1290 ∷ []) ∷ tens 129 ∷ [];
+      tree = intersection (more (leaf 0) (one (leaf 1)));
+      bookmark = 0;
+      calls = replicate 3 next;
+      replies = Member 650 ∷ Member 1290 ∷ Finished ∷ [];
+      last = 4294967296;
+      moves = 4;
+      places = 0 ∷ 2 ∷ 128 ∷ [];
+    } ∷
+    -- at a later node; three hops, from a bookmark
+    record {
+      lists = (5 ∷ []) ∷ tens 192 ∷ [];
+      tree = union (more (leaf 0) (more (leaf 0) (one (difference (leaf 1) (leaf 1)))));
+      bookmark = 1921;
+      calls = next ∷ [];
+      replies = Finished ∷ [];
+      last = 4294967296;
+      moves = 5;
+      places = 0 ∷ 1 ∷ 1 ∷ 0 ∷ 192 ∷ 0 ∷ [];
+    } ∷
+    -- a difference whose second hops to the first's answer, and a check below it that hops at both
+    record {
+      lists = (650 ∷ 1300 ∷ []) ∷ tens 129 ∷ [];
+      tree = difference (leaf 0) (leaf 1);
+      bookmark = 0;
+      calls = next ∷ [];
+      replies = Member 1300 ∷ [];
+      last = 1301;
+      moves = 4;
+      places = 0 ∷ 1 ∷ 129 ∷ [];
+    } ∷
+    record {
+      lists = tens 65 ∷ tens 129 ∷ [];
+      tree = difference (leaf 0) (leaf 1);
+      bookmark = 0;
+      calls = check 650 ∷ [];
+      replies = No ∷ [];
+      last = 650;
+      moves = 2;
+      places = 0 ∷ 64 ∷ 64 ∷ [];
+    } ∷
+    []
+
+pub hops : map computed hop-rows ≡ map stated hop-rows
+unfolding computes
+hops = refl
 
 abbrev eight-of-list-0 : List ℕ
 eight-of-list-0 = 136 ∷ replicate 8 0

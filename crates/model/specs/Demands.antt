@@ -96,13 +96,15 @@ ran-all r lent = record { number = 0; parts = run-parts (r .moves) (r .places) (
 module _ (l : Lent) (expression : List ℕ) where
   -- one run, accepted; the call sends back its result. "In every one of these runs the reported reader moves and places
   -- equal those of the steps in document 01, and the moves never exceed the summed lengths of the lists at the
-  -- expression's leaves"; a place never passes its list's end, and is 0 at operators and unused nodes
+  -- expression's leaves"; a place never passes its list's end, and is 0 at operators and unused nodes. The steps are those
+  -- of 01 as request Five changed them, and `summed` is what it left of 01's "Moves are the sum of the places": they are
+  -- never above it
   pub record Sound-run (s : Source) (start : Start) (codes ds lent : List ℕ) (r : Result) : Type 0 where
     pub accepts : run-of l expression start codes ds (length lent) ≡ accepted r
     pub sends : run-call l expression start codes ds lent ≡ ran-all r lent
     pub by-the-steps : r ≡ run (s .lists) (s .tree) start (calls codes ds)
     pub bounded : r .moves ≤ sum (lengths (map length (s .lists)) (s .tree))
-    pub summed : r .moves ≡ sum (r .places)
+    pub summed : r .moves ≤ sum (r .places)
     pub places : length (r .places) ≡ 48
     pub inside : (i : ℕ) → getD (r .places) i 0 ≤ getD (lengths (map length (s .lists)) (s .tree)) i 0
 

@@ -19,3 +19,4 @@ pub mod RequestOne
 pub mod RequestTwo
 pub mod Bounds
 pub mod RequestFour
+pub mod RequestFive

@@ -10,7 +10,7 @@ use Rattle.model.specs.Outcome.{Outcome, accepted, _>>=_, _>>_, require}
 use Rattle.model.specs.Lists.{top, Lent, lists-of}
 use Rattle.model.specs.Expression.{Tree}
 use Rattle.model.specs.Machine.{Call, next, at-or-past, past, check, other, calls}
-use Rattle.model.specs.Steps.{Readers, Found, end, at, Checked, says, seek, check-node}
+use Rattle.model.specs.Steps.{Readers, Found, end, at, Checked, says, Advance, hopping, seek-by, check-by}
 use Rattle.model.specs.Forms.{Leaf-test, there, read-packed}
 
 -- what one call leaves to the next: floor, places and moves
@@ -27,21 +27,23 @@ drawn (at x rs) = (Member x, record { floor = suc x; readers = rs })
 unfoldable pub told : ℕ → Checked → Reply × State
 told d (says b rs) = (cond b Yes No, record { floor = d; readers = rs })
 
--- "Codes 0 to 2 seek the raised floor. Check with D below the floor moves nothing"
-unfoldable pub step : List (List ℕ) → Tree → State → Call → Reply × State
-step ls t s next = drawn (seek ls t 0 (s .floor) (s .readers))
-step ls t s (at-or-past d) = drawn (seek ls t 0 (max (s .floor) d) (s .readers))
-step ls t s (past d) = drawn (seek ls t 0 (max (s .floor) (suc d)) (s .readers))
-step ls t s (check d) = elim (ltb d (s .floor)) [ true ↦ (No, s) | false ↦ told d (check-node ls t 0 d (s .readers)) ]
-step ls t s other = (Unknown, s)
+-- by the way readers go
+module _ (advance : Advance) where
+  -- "Codes 0 to 2 seek the raised floor. Check with D below the floor moves nothing"
+  unfoldable pub step-by : List (List ℕ) → Tree → State → Call → Reply × State
+  step-by ls t s next = drawn (seek-by advance ls t 0 (s .floor) (s .readers))
+  step-by ls t s (at-or-past d) = drawn (seek-by advance ls t 0 (max (s .floor) d) (s .readers))
+  step-by ls t s (past d) = drawn (seek-by advance ls t 0 (max (s .floor) (suc d)) (s .readers))
+  step-by ls t s (check d) = elim (ltb d (s .floor)) [ true ↦ (No, s) | false ↦ told d (check-by advance ls t 0 d (s .readers)) ]
+  step-by ls t s other = (Unknown, s)
 
--- the calls one after another: the replies in order, and the last state
-unfoldable pub steps : List (List ℕ) → Tree → State → List Call → List Reply × State
-steps ls t s [] = ([], s)
-steps ls t s (c ∷ cs) =
-    let (r, after) = step ls t s c in
-    let (rs, last) = steps ls t after cs in
-    (r ∷ rs, last)
+  -- the calls one after another: the replies in order, and the last state
+  unfoldable pub steps-by : List (List ℕ) → Tree → State → List Call → List Reply × State
+  steps-by ls t s [] = ([], s)
+  steps-by ls t s (c ∷ cs) =
+      let (r, after) = step-by ls t s c in
+      let (rs, last) = steps-by ls t after cs in
+      (r ∷ rs, last)
 
 -- where a run begins, and where one that goes on from it does: the bookmark
 pub record Start : Type 0 where
@@ -65,10 +67,20 @@ pub record Result : Type 0 where
   pub places : List ℕ
   pub last : Start
 
-unfoldable pub run : List (List ℕ) → Tree → Start → List Call → Result
-run ls t start cs =
-    let (rs, s) = steps ls t (begin start) cs in
+unfoldable pub run-by : Advance → List (List ℕ) → Tree → Start → List Call → Result
+run-by advance ls t start cs =
+    let (rs, s) = steps-by advance ls t (begin start) cs in
     record { replies = rs; moves = s .readers .moves; places = s .readers .places; last = starting (s .floor) }
+
+-- by readers that hop
+abbrev pub step : List (List ℕ) → Tree → State → Call → Reply × State
+step = step-by hopping
+
+abbrev pub steps : List (List ℕ) → Tree → State → List Call → List Reply × State
+steps = steps-by hopping
+
+abbrev pub run : List (List ℕ) → Tree → Start → List Call → Result
+run = run-by hopping
 
 -- lists and expression, by what a run tests ahead of the bookmark: 7, 10, 11; 1 to 5 and 18
 pub record Source : Type 0 where

@@ -17,7 +17,7 @@ use Rattle.model.specs.Expression.{Tree}
 use Rattle.model.specs.Sets.{among, member}
 use Rattle.model.specs.Machine.{next}
 use Rattle.model.specs.Steps.{Found, end, at, seek}
-use Rattle.model.specs.Run.{State, drawn, step, steps, Start, Low, begin}
+use Rattle.model.specs.Run.{State, drawn, step, steps, Start, Low, begin, step-by, steps-by}
 use Rattle.model.proofs.Order.{split, Up, up-drop, up-none}
 use Rattle.model.proofs.Denoted.{members-from, members-from-up, members-from-are}
 use Rattle.model.proofs.Join.{Between, begins, floor-low, Next-drawn, draws-next}
@@ -67,7 +67,7 @@ behind-last floor (x ∷ ms) m = behind-last (suc x) ms m
 module _ (ls : List (List ℕ)) (t : Tree) where
   -- page by page is the whole
   pub page-append : (n m : ℕ) (s : State) → page ls t s (n + m) ≡ and-then (page ls t s n) (λ s. page ls t s m)
-  unfolding page and-then go-on step drawn
+  unfolding page and-then go-on step-by drawn
   page-append zero m s = rw (zero-add m)
   page-append (suc n) m s =
       let one : suc n + m ≡ suc (n + m) = omega arith in
@@ -84,7 +84,7 @@ module _ (ls : List (List ℕ)) (t : Tree) where
 
   -- it is full where it did not end with finished
   pub page-full : (n : ℕ) (s : State) → page ls t s n .2 ≡ false → length (page ls t s n .0) ≡ n
-  unfolding page go-on step drawn
+  unfolding page go-on step-by drawn
   page-full zero s h = refl
   page-full (suc n) s h = go (seek ls t 0 (s .floor) (s .readers)) (page-full n) h
     where
@@ -94,7 +94,7 @@ module _ (ls : List (List ℕ)) (t : Tree) where
 
   -- a page is a run of nexts: their replies, and the state after the last
   pub page-run : (n : ℕ) (s : State) → let d = page ls t s n in steps ls t s (replicate (asked (length (d .0)) (d .2)) next) ≡ (replied (d .0) (d .2), d .1)
-  unfolding page go-on step drawn steps asked replied
+  unfolding page go-on step-by drawn steps-by asked replied
   page-run zero s = refl
   page-run (suc n) s = go (seek ls t 0 (s .floor) (s .readers)) refl (page-run n)
     where
@@ -109,7 +109,7 @@ module _ (ls : List (List ℕ)) (t : Tree) where
 
   -- the floor after a page
   pub page-floor : (n : ℕ) (s : State) → page ls t s n .1 .floor ≡ cond (page ls t s n .2) top (behind (s .floor) (page ls t s n .0))
-  unfolding page go-on step drawn behind
+  unfolding page go-on step-by drawn behind
   page-floor zero s = refl
   page-floor (suc n) s = go (seek ls t 0 (s .floor) (s .readers)) (page-floor n)
     where

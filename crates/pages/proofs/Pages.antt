@@ -14,7 +14,7 @@ use Rattle.model.specs.declared.Reply.the-variants.{Member, Finished, Yes, No, 
 use Rattle.model.proofs.Reply.{the-type}
 use Rattle.model.specs.Expression.{Tree}
 use Rattle.model.specs.Steps.{seek}
-use Rattle.model.specs.Run.{State, drawn, step}
+use Rattle.model.specs.Run.{State, drawn, step-by}
 use Rattle.fields.specs.Rows.{lay}
 use Rattle.fields.proofs.Rows.{lay-nil, lay-cons}
 use Rattle.pages.specs.Pages.{Drawing, go-on, page, Handed, laid-down}
@@ -69,7 +69,7 @@ module _ (ls : List (List ℕ)) (t : Tree) where
   -- a turn
   turn : (s : State) (row : List ℕ) (i : ℕ) (p : Reply × State) → i < length row → p ≡ drawn (seek ls t 0 (s .floor) (s .readers))
       → placed (go-on (λ s. page ls t s (length row - (i + 1))) p) row i ≡ hands s row i
-  unfolding hands page step
+  unfolding hands page step-by
   turn s row i p h e =
       let left : length row - i ≡ suc (length row - (i + 1)) = omega arith in
       ap (λ (q : Reply × State). placed (go-on (λ s. page ls t s (length row - (i + 1))) q) row i) e

@@ -5,33 +5,108 @@ use mathlib.Core.List.{List, [], _∷_}
 use Prim.Native.Nat.{ℕ, zero, suc, _+_, _-_, _*_, _≤_, _<_}
 use native.Mathlib.Omega.{arith}
 use native.Mathlib.Numerals.{add-one}
-use borrow.Author.Tests.{lt-ltb, le-ltb, ltb-false}
+use borrow.Author.Tests.{lt-ltb, le-ltb, ltb-true, ltb-false}
 use lib.Dec.{ltb}
 use lib.ListN.{replicate, length, length-set, getD, set, drop, drop-of-length-le, length-drop}
 use lib.Seq.{drop-cons, getD-drop}
 use Rattle.model.specs.Lists.{top}
 use Rattle.model.specs.Steps as model
-use Rattle.model.specs.Steps.{at, passed, moves-to, answer, read}
+use Rattle.model.specs.Steps.{at, passed, Progress, singly, hops, answer, read, read-by}
 use Rattle.model.specs.Demands.{sum}
-use Rattle.model.proofs.Seek.{passed-on, passed-off}
-use Rattle.model.proofs.Places.{passed-le, moves-all, sum-set}
+use Rattle.model.proofs.Order.{and-true, split, Up, up-drop}
+use Rattle.model.proofs.Hops.{passed-on, passed-off, passed-le, up-le, hops-far, hops-near, hopping-off, hops-on, grown-same, moves-le, grown-far}
+use Rattle.model.proofs.Places.{sum-set}
 use Rattle.reader.specs.declared.Readers.{Readers}
 use Rattle.reader.specs.declared.ReadResult.{ReadResult}
-use Rattle.reader.specs.Sought.{found, Tallied, Sound, Read, Stays}
+use Rattle.reader.specs.Sought.{found, Tallied, Sound, below, Hopped, Advanced, Read, Stays}
 use Rattle.reader.proofs.Answers.{found-at, found-end}
 
 -- ---- one turn, at a place of the list
 
 module _ (list : List ℕ) (at to : ℕ) where
-  pub none-end : length list ≤ at → passed (drop at list) to ≡ 0
+  none-end : length list ≤ at → passed (drop at list) to ≡ 0
   unfolding passed
   none-end h = rw drop-of-length-le
 
-  pub none-stop : at < length list → to ≤ getD list at 0 → passed (drop at list) to ≡ 0
+  none-stop : at < length list → to ≤ getD list at 0 → passed (drop at list) to ≡ 0
   none-stop h k = rw (drop-cons list at 0, passed-off _ _ to (le-ltb (getD list at 0) to k))
 
-  pub one-more : at < length list → getD list at 0 < to → passed (drop at list) to ≡ suc (passed (drop (at + 1) list) to)
-  one-more h k = rw (add-one, drop-cons list at 0, passed-on _ _ to (lt-ltb (getD list at 0) to k))
+  -- what the reader finds there: the list's end, or a number that is not below E
+  pub stopping : below list at to ≡ false → at < length list → to ≤ getD list at 0
+  unfolding below
+  stopping h k = ltb-false (getD list at 0) to (rw (lt-ltb at (length list) k) at h)
+
+  pub none-more : below list at to ≡ false → passed (drop at list) to ≡ 0
+  none-more h = split (passed (drop at list) to ≡ 0) at (length list) (λ lt. none-stop lt (stopping h lt)) none-end
+
+  -- or a number that is
+  pub passing : below list at to ≡ true → (at < length list) × (getD list at 0 < to)
+  unfolding below
+  passing h = let both = and-true _ _ h in (ltb-true at (length list) (both .0), ltb-true (getD list at 0) to (both .1))
+
+  pub one-more : below list at to ≡ true → passed (drop at list) to ≡ suc (passed (drop (at + 1) list) to)
+  one-more h = let both = passing h in rw (add-one, drop-cons list at 0 (both .0), passed-on _ _ to (lt-ltb (getD list at 0) to (both .1)))
+
+-- ---- one hop, at a place of the list
+
+module _ (list : List ℕ) (at to : ℕ) where
+  pub few-left : length list < at + 64 → hops (drop at list) to ≡ false
+  few-left h = hops-near to (drop at list) (λ far. absurd (omega (arith, far, length-drop at list)))
+
+  pub near-number : (j x : ℕ) → x ≡ getD list j 0 → j ≡ at + 63 → to ≤ x → hops (drop at list) to ≡ false
+  near-number j x e is h = hops-near to (drop at list) (λ far. rw (getD-drop at list 63 0, ← is, ← e) h)
+
+  pub far-enough : (j x : ℕ) → x ≡ getD list j 0 → j ≡ at + 63 → at + 64 ≤ length list → x < to → hops (drop at list) to ≡ true
+  far-enough j x e is h k = hops-far to (drop at list) (omega (arith, length-drop at list)) (rw (getD-drop at list 63 0, ← is, ← e) k)
+
+  -- and so one hop more was made
+  pub one-more-hop : (place n : ℕ) → at ≡ place + 64 * n → hops (drop at list) to ≡ true → ((k : ℕ) → k < n → hops (drop (place + 64 * k) list) to ≡ true)
+      → (k : ℕ) → k < n + 1 → hops (drop (place + 64 * k) list) to ≡ true
+  one-more-hop place n is here each k h = split (hops (drop (place + 64 * k) list) to ≡ true) k n (each k)
+      (λ last. let same : place + 64 * k ≡ at = omega (arith, is) in rw same here)
+
+-- ---- by hops and then singly
+
+module _ (list : List ℕ) (place to : ℕ) where
+  -- a reader that does not hop moves singly
+  singly-there : (last n : ℕ) → hops (drop place list) to ≡ false → passed (drop place list) to ≡ n → last ≡ place + n → Advanced list place to last n
+  unfolding singly
+  singly-there last n h moves is =
+      let one = hopping-off to (drop place list) h in
+      record { comes = omega (arith, ap (λ (p : Progress). p .grown) one, moves, is); counts = omega (arith, ap (λ (p : Progress). p .moves) one, moves) }
+
+  -- over an ascending list, where one of the 64 numbers is not below E the 64th is not
+  not-far : Up 0 list → (j : ℕ) → j < 64 → below list (place + j) to ≡ false → hops (drop place list) to ≡ false
+  not-far up j small h = split (hops (drop place list) to ≡ false) (place + 63) (length list)
+      (λ lt. near-number list place to (place + 63) _ refl refl (omega (arith, stopping list (place + j) to h (omega arith), up-le 0 (place + j) (place + 63) list up (omega arith) lt)))
+      (λ ge. few-left list place to (omega arith))
+
+  -- so that one number tells that it stays, and a second one that it makes one move
+  pub no-move : (last n : ℕ) → Up 0 list → below list place to ≡ false → last ≡ place → n ≡ 0 → Advanced list place to last n
+  no-move last n up h is none =
+      let here : place + 0 ≡ place = omega arith in
+      singly-there last n (not-far up 0 (omega arith) (rw here h)) (omega (arith, none-more list place to h)) (omega arith)
+
+  pub one-move : (last n : ℕ) → Up 0 list → below list place to ≡ true → below list (place + 1) to ≡ false → last ≡ place + 1 → n ≡ 1 → Advanced list place to last n
+  one-move last n up h k is one = singly-there last n (not-far up 1 (omega arith) k) (omega (arith, one-more list place to h, none-more list (place + 1) to k)) (omega arith)
+
+  -- where it has not hopped and both are passed, it may go on behind them
+  pub two-behind : (h n from : ℕ) → below list place to ≡ true → below list (place + 1) to ≡ true → Hopped list place to h n → n ≡ 0 → from ≡ place + 2
+      → from + passed (drop from list) to ≡ h + passed (drop h list) to
+  two-behind h n from one two made none is =
+      let here : h ≡ place = omega (arith, made .far, none) in
+      let behind : from ≡ place + 1 + 1 = omega (arith, is) in
+      rw (here, behind) (omega (arith, one-more list place to one, one-more list (place + 1) to two))
+
+  pub advanced : (h n last moves : ℕ) → Hopped list place to h n → last ≡ h + passed (drop h list) to → moves ≡ n + (last - h) → Advanced list place to last moves
+  unfolding singly
+  advanced h n last moves made is counts =
+      let on = rw (← made .far) at (hops-on to list n place (made .each)) in
+      let one = hopping-off to (drop h list) (made .ended) in
+      record {
+        comes = omega (arith, on .grown, ap (λ (p : Progress). p .grown) one, made .far, is);
+        counts = omega (arith, on .moves, ap (λ (p : Progress). p .moves) one, is, counts);
+      }
 
 -- ---- the whole step
 
@@ -75,34 +150,41 @@ moves-few rs t = omega (arith, t .within, rw (t .many) at (sum-bound (rs .places
 abbrev after : model.Readers → ℕ → ℕ → ℕ → model.Readers
 after rs i place n = record { places = set (rs .places) i place; moves = rs .moves + n }
 
--- what is known of the place where a reader over a list stops, by n moves
+-- what is known of the place where a reader over an ascending list comes to, by n moves
 pub record Stopped (list : List ℕ) (before to place n : ℕ) : Type 0 where
   pub small : before ≤ 65535 → length list ≤ 65535 → place ≤ 65535
+  pub within : before + n ≤ place
+  pub still : n ≡ 0 → place ≡ before
   pub above : place < length list → to ≤ getD list place 0
   pub number : (x : ℕ) → place < length list → x ≡ getD list place 0 → x < top
       → (i : ℕ) (rs : model.Readers) → getD (rs .places) i 0 ≡ before → found x (after rs i place n) ≡ read list i to rs
   pub finished : length list ≤ place
       → (i : ℕ) (rs : model.Readers) → getD (rs .places) i 0 ≡ before → found top (after rs i place n) ≡ read list i to rs
 
--- moved one by one, a reader counts the places that it has passed
-pub one-by-one : (list : List ℕ) (before to place : ℕ) → place ≡ before + passed (drop before list) to → place - before ≡ moves-to (drop before list) to
-one-by-one list before to place is = omega (arith, is, moves-all (drop before list) to)
-
-pub stopped : (list : List ℕ) (before to place n : ℕ) → place ≡ before + passed (drop before list) to → n ≡ moves-to (drop before list) to → Stopped list before to place n
-unfolding read answer
-stopped list before to place n is count = record { small = small; above = above; number = number; finished = finished }
+pub stopped : (list : List ℕ) (before to place n : ℕ) → Up 0 list → Advanced list before to place n → Stopped list before to place n
+unfolding read-by answer
+stopped list before to place n up a = record { small = small; within = within; still = still; above = above; number = number; finished = finished }
   where
-    left : passed (drop before list) to ≤ length list - before
-    left = omega (arith, passed-le (drop before list) to, length-drop before list)
+    left : List ℕ
+    left = drop before list
+
+    single : place ≡ before + passed left to
+    single = a .comes ∙ ap (λ (m : ℕ). before + m) (grown-same to 0 left (up-drop 0 before list up))
 
     small : before ≤ 65535 → length list ≤ 65535 → place ≤ 65535
-    small h k = omega (arith, left, is)
+    small h k = omega (arith, single, passed-le left to, length-drop before list)
+
+    within : before + n ≤ place
+    within = omega (arith, a .comes, a .counts, moves-le to left)
+
+    still : n ≡ 0 → place ≡ before
+    still z = omega (arith, z, a .comes, a .counts, grown-far to left)
 
     above : place < length list → to ≤ getD list place 0
-    above h = rw (is, ← getD-drop before list (passed (drop before list) to) 0) (stop-above (drop before list) to (omega (arith, is, length-drop before list)))
+    above h = rw (single, ← getD-drop before list (passed left to) 0) (stop-above left to (omega (arith, single, length-drop before list)))
 
     reads : (i : ℕ) (rs : model.Readers) → getD (rs .places) i 0 ≡ before → read list i to rs ≡ answer (drop place list) (after rs i place n)
-    reads i rs here = rw (here, ← is, ← count)
+    reads i rs here = rw (here, ← a .comes, ← a .counts)
 
     number : (x : ℕ) → place < length list → x ≡ getD list place 0 → x < top
         → (i : ℕ) (rs : model.Readers) → getD (rs .places) i 0 ≡ before → found x (after rs i place n) ≡ read list i to rs

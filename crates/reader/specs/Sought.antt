@@ -1,16 +1,16 @@
 -- The readers as the code has them, what a seek hands back, and what a list's own step does.
 use mathlib.Core.Path.{_≡_}
-use mathlib.Core.Bool.{true, false}
+use mathlib.Core.Bool.{Bool, true, false, _&&_}
 use mathlib.Core.List.{List, []}
-use Prim.Native.Nat.{ℕ, _+_, _≤_, _<_}
+use Prim.Native.Nat.{ℕ, _+_, _*_, _≤_, _<_}
 use lib.Dec.{ltb}
-use lib.ListN.{length, getD, set}
+use lib.ListN.{length, getD, set, drop}
 use Rattle.model.specs.declared.Node.the-variants.{Leaf}
 use Rattle.model.specs.Outcome.{accepted}
 use Rattle.model.specs.Lists.{top, lists-from}
 use Rattle.model.specs.Forms.{node-of}
 use Rattle.model.specs.Steps as model
-use Rattle.model.specs.Steps.{Found, end, at, read}
+use Rattle.model.specs.Steps.{Found, end, at, hops, hopping, read}
 use Rattle.model.specs.Demands.{sum}
 use Rattle.reader.specs.declared.Readers.{Readers}
 use Rattle.reader.specs.declared.SeekResult.{SeekResult}
@@ -40,6 +40,21 @@ pub record Sound (e : ℕ) (s : SeekResult) : Type 0 where
   pub above : e ≤ s .answer
   pub low : s .answer ≤ top
   pub tallied : Tallied (s .readers)
+
+-- "the place is inside the list and the number there is below E"
+unfoldable pub below : List ℕ → ℕ → ℕ → Bool
+below l place e = ltb place (length l) && ltb (getD l place 0) e
+
+-- where a reader stands after its hops to e, from a place in the list l: it made so many, each where it hops, and hops no more
+pub record Hopped (l : List ℕ) (place e at moves : ℕ) : Type 0 where
+  pub far : at ≡ place + 64 * moves
+  pub each : (k : ℕ) → k < moves → hops (drop (place + 64 * k) l) e ≡ true
+  pub ended : hops (drop at l) e ≡ false
+
+-- where a reader comes to, and by how many moves: `Steps.hopping`
+pub record Advanced (l : List ℕ) (place e at moves : ℕ) : Type 0 where
+  pub comes : at ≡ place + hopping (drop place l) e .grown
+  pub counts : moves ≡ hopping (drop place l) e .moves
 
 -- what a reader's step to e hands back, from a place in the list l: of whichever node's reader it is, its step by `Steps.read`
 pub record Read (l : List ℕ) (place e : ℕ) (r : ReadResult) : Type 0 where

@@ -1,10 +1,11 @@
 // One reader's step over its list, and the table that says where each node of an expression ends.
 ghost use mathlib.Core.Path.{_≡_};
+ghost use mathlib.Core.Bool.{true};
 ghost use mathlib.Core.List.{[]};
 ghost use Prim.Native.Nat.{ℕ, _+_, _≤_, _<_};
 ghost use lib.ListN.{length, getD, drop};
 ghost use Rattle.model.specs.Outcome.{accepted};
-ghost use Rattle.model.specs.Lists.{top, lists-from};
+ghost use Rattle.model.specs.Lists.{top, ascending, lists-from};
 ghost use Rattle.model.specs.Steps.{passed};
 ghost use Rattle.model.specs.declared.Node.{Node};
 ghost use Rattle.model.specs.declared.Node.the-variants.{Leaf};
@@ -12,9 +13,8 @@ ghost use Rattle.model.specs.Forms.{node-of};
 ghost use Rattle.expression.specs.Reading.{members};
 ghost use Rattle.lists.specs.Readable.{Readable};
 ghost use Rattle.reader.specs.Rows.{Behind, siblings};
-ghost use Rattle.reader.specs.Sought.{Read, Reads};
+ghost use Rattle.reader.specs.Sought.{below, Hopped, Advanced, Read, Reads};
 use expression::Kind;
-use model::Node;
 
 // The answer of a seek that is finished: the first whole number that is no number of a list.
 pub const FINISHED: u64 = 4294967296;
@@ -76,18 +76,75 @@ fn moves_of(x: usize) -> u32
     x as u32
 }
 
-// "move while the place is inside the list and the number there is below E": the place after it.
+// How a reader goes over its list: the place that it comes to, and how many moves that counts.
+struct Progress {
+    at: usize,
+    moves: usize,
+}
+
+// "while at least 64 numbers remain from its place and the 64th of them is below E, the place grows by 64 and that counts one
+// move".
+fn hop(list: &[u32], place: usize, to: u64) -> Progress
+    requires { ⌜ (length (now list) ≤ 65535) × (place ≤ 65535) ⌝ }
+    ensures { λ r. ⌜ Hopped (now (list .entry)) place to (r .at) (r .moves) ⌝ }
+{
+    let mut at = place;
+    let mut moves: usize = 0;
+    while at + 64 <= list.len() {
+        if to <= wide(list[at + 63]) {
+            return Progress { at, moves };
+        }
+        at += 64;
+        moves += 1;
+    }
+    Progress { at, moves }
+}
+
+// "the place is inside the list and the number there is below E".
+fn passes(list: &[u32], at: usize, to: u64) -> bool
+    ensures { λ r. ⌜ r ≡ below (now (list .entry)) at to ⌝ }
+{
+    at < list.len() && wide(list[at]) < to
+}
+
+// "move while" it passes: the place after it.
 fn moved(list: &[u32], place: usize, to: u64) -> usize
     ensures { λ r. ⌜ r ≡ place + passed (drop place (now (list .entry))) to ⌝ }
 {
     let mut at = place;
-    while at < list.len() {
-        if to <= wide(list[at]) {
-            return at;
-        }
+    while passes(list, at, to) {
         at += 1;
     }
     at
+}
+
+// By hops, and "Then it moves singly as before". A reader at the list's end, or at a number that is not below E, stays; one whose next
+// place is such makes one move: as the list ascends, neither hops. Else it has passed two numbers, and where it does not hop it goes on
+// behind them.
+fn advance(list: &[u32], place: usize, to: u64) -> Progress
+    requires { ⌜ (ascending (now list) ≡ true) × (length (now list) ≤ 65535) × (place ≤ 65535) ⌝ }
+    ensures { λ r. ⌜ Advanced (now (list .entry)) place to (r .at) (r .moves) ⌝ }
+{
+    if !passes(list, place, to) {
+        return Progress {
+            at: place,
+            moves: 0,
+        };
+    }
+    if !passes(list, place + 1, to) {
+        return Progress {
+            at: place + 1,
+            moves: 1,
+        };
+    }
+    let h = hop(list, place, to);
+    let from = if h.moves == 0 { place + 2 } else { h.at };
+    let at = moved(list, from, to);
+    let singles = at - h.at;
+    Progress {
+        at,
+        moves: h.moves + singles,
+    }
 }
 
 // The reader of list k, from its place: "At the list's end it is finished, else it answers the number".
@@ -100,8 +157,9 @@ pub fn read_list(numbers: &[u32], ends: &[u32], k: usize, place: u16, to: u64) -
     let stop = lists::start_of(ends, k + 1);
     let list = &numbers[from..stop];
     let before = index(place);
-    let at = moved(list, before, to);
-    let moves = moves_of(at - before);
+    let went = advance(list, before, to);
+    let at = went.at;
+    let moves = moves_of(went.moves);
     let after = place_of(at);
     if at < list.len() {
         ReadResult {
@@ -124,20 +182,14 @@ pub fn read_member(numbers: &[u32], ends: &[u32], byte: u8, place: u16, to: u64)
     requires { ⌜ ((k : ℕ) → node-of byte ≡ accepted (Leaf k) → k < length (now ends)) × (to ≤ top) ⌝ }
     ensures { λ r. ⌜ Reads (now (numbers .entry)) (now (ends .entry)) byte place to r ⌝ }
 {
-    let kind = expression::node_of(byte);
-    let Kind::Known(node) = kind else {
+    if 31 < byte {
         return MemberRead::Operator;
-    };
-    match node {
-        Node::Leaf(k) => {
-            let r = read_list(numbers, ends, expression::wide(k), place, to);
-            if r.moves == 0 {
-                return MemberRead::Still(r.answer);
-            }
-            MemberRead::Moved(r)
-        }
-        _ => MemberRead::Operator,
     }
+    let r = read_list(numbers, ends, expression::wide(byte), place, to);
+    if r.moves == 0 {
+        return MemberRead::Still(r.answer);
+    }
+    MemberRead::Moved(r)
 }
 
 // How many member nodes follow the node of a byte.

@@ -13,7 +13,7 @@ use Rattle.model.specs.Outcome.{accepted}
 use Rattle.model.specs.Lists.{top, Numbers, lists-from}
 use Rattle.model.specs.Expression.{Tree, difference, union, intersection, Members, size}
 use Rattle.model.specs.Forms.{node-of}
-use Rattle.model.specs.Steps.{Readers, Found, Seek, read, seek}
+use Rattle.model.specs.Steps.{Readers, Found, Seek, read, seek, seek-by}
 use Rattle.model.proofs.Order.{Up}
 use Rattle.model.proofs.Fuel.{differ-with, intersect-with, seek-difference}
 use Rattle.lists.proofs.Spans.{readable-up}
@@ -141,7 +141,7 @@ module _ (numbers ends nodes behind : List ℕ) (n : Numbers numbers) (r : Ready
 -- ---- a list
 pub read-is : (numbers ends nodes : List ℕ) (node k : ℕ) → node-of (getD nodes node 0) ≡ accepted (Leaf k) → (e : ℕ) (rs : Readers) (f : Found)
     → f ≡ read (getD (lists-from numbers 0 ends) k []) node e rs → (t : Tree) → Stands (length ends) nodes t node → f ≡ seek (lists-from numbers 0 ends) t node e rs
-unfolding seek
+unfolding seek-by
 read-is numbers ends nodes node k here e rs f is t s = rw (leaf-is t k (root-is (length ends) nodes t node (Leaf k) s here)) is
 
 -- ---- the end of a loop over member nodes: no tree is left

@@ -10,7 +10,7 @@ use lib.ListN.{length, getD}
 use borrow.Author.Tests.{lt-ltb, le-ltb, eq-eqb, ne-eqb, ltb-true, ltb-false, eqb-false}
 use Rattle.model.specs.Lists.{top}
 use Rattle.model.specs.Expression.{Tree, union, intersection, Members, one, more, size, sizes}
-use Rattle.model.specs.Steps.{Readers, Found, end, at, Seek, on, unite, follow, seek, seek-union, seek-rest}
+use Rattle.model.specs.Steps.{Readers, Found, end, at, Seek, on, unite, follow, seek, seek-union, seek-rest, seek-by}
 use Rattle.model.proofs.Order.{Up}
 use Rattle.model.proofs.Residual.{Sought, residual}
 use Rattle.model.proofs.Seek.{seek-is}
@@ -130,7 +130,7 @@ module _ (ls : List (List ℕ)) where
           on-end (seek ls t i e rs) x rs₁ a _ _ h ∙ ap (λ (l : ℕ). unite-from ls l ts (i + size t) e rs₁) same
 
   unite-all : (ts : Members) (least i e : ℕ) (rs : Readers) → unite-from ls least (each ts) i e rs ≡ lower least (seek-union ls ts i e rs)
-  unfolding unite-from seek unite each
+  unfolding unite-from seek-by unite each
   unite-all (one t) least i e rs = go (seek ls t i e rs)
     where
       go : (r : Found) → on r (λ rs₁. found least rs₁) (λ x rs₁. found (min least x) rs₁) ≡ lower least r
@@ -202,7 +202,7 @@ module _ (ls : List (List ℕ)) (up : (k : ℕ) → Up 0 (getD ls k [])) where
   -- a union, from its loop's start
   pub unite-start : (ts : Members) (i e : ℕ) (rs : Readers) → e ≤ top → i + size (union ts) ≤ length (rs .places)
       → unite-from ls top (each ts) (1 + i) e rs ≡ seek ls (union ts) i e rs
-  unfolding seek
+  unfolding seek-by
   unite-start ts i e rs h k = unite-all ls ts top (1 + i) e rs ∙ go (seek-union ls ts (1 + i) e rs) (fine (union ts) i e rs h k)
     where
       go : (r : Found) → Fine (length (rs .places)) e r → lower top r ≡ r
@@ -211,7 +211,7 @@ module _ (ls : List (List ℕ)) (up : (k : ℕ) → Up 0 (getD ls k [])) where
 
   -- the members after the first
   rest-each : (ts : Members) (i e : ℕ) (rs : Readers) → e ≤ top → i + sizes ts ≤ length (rs .places) → seek-each ls (each ts) i e rs ≡ seek-rest ls ts i e rs
-  unfolding seek-each seek follow each sizes
+  unfolding seek-each seek-by follow each sizes
   rest-each (one t) i e rs h k = go (seek ls t i e rs) (fine t i e rs h k)
     where
       go : (r : Found) → Fine (length (rs .places)) e r → on r end (λ x rs₁. elim (ltb e x) [ true ↦ at x rs₁ | false ↦ at e rs₁ ]) ≡ r
@@ -235,7 +235,7 @@ module _ (ls : List (List ℕ)) (up : (k : ℕ) → Up 0 (getD ls k [])) where
   -- an intersection's step, of one member node too
   pub intersection-step : (ts : Members) (i e : ℕ) (rs : Readers) → e ≤ top → i + size (intersection ts) ≤ length (rs .places)
       → seek ls (intersection ts) i e rs ≡ intersect-with (seek ls (intersection ts) i) (seek ls (head ts) (1 + i)) (seek-each ls (tail ts) (1 + i + size (head ts))) e rs
-  unfolding seek seek-each size sizes
+  unfolding seek-by seek-each size sizes
   intersection-step (one t) i e rs h k = go (seek ls t (1 + i) e rs)
     where
       go : (r : Found) → r ≡ on r end λ x rs₁. on (seek-each ls [] (1 + i + size t) x rs₁) end λ y rs₂. elim (ltb x y) [ true ↦ seek ls (intersection (one t)) i y rs₂ | false ↦ at x rs₂ ]

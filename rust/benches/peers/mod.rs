@@ -1,5 +1,7 @@
 //! The other contenders.
 
+#[cfg(before)]
+pub mod before;
 pub mod bits;
 pub mod btree;
 #[cfg(peer_roaring)]

@@ -1,23 +1,41 @@
 //! The same generator steps in idiomatic Rust: an enum tree of mutable readers, with the tests and refusals of a run.
 
 /// What a run hands back.
-#[derive(Debug, PartialEq, Eq)]
+#[derive(Debug, Clone, Copy, PartialEq, Eq)]
 pub struct RunResult {
     pub moves: u32,
     pub places: [u16; 48],
     pub bookmark: u64,
 }
 
-const TOP: u64 = 1 << 32;
+impl RunResult {
+    /// The sum of the places: what the moves would be if all were single.
+    pub fn passed(&self) -> u32 {
+        self.places.iter().map(|&place| u32::from(place)).sum()
+    }
+}
 
-/// One list and how far it has been read.
+const TOP: u64 = 1 << 32;
+/// How many numbers a hop goes over.
+const HOP: usize = 64;
+
+/// One list, how far it has been read, and how many hops were made on the way.
 pub struct Reader<'a> {
     list: &'a [u32],
     place: usize,
+    hops: usize,
 }
 
 impl Reader<'_> {
+    /// Where the number here is not below `to`, that is all that is looked at: the list ascends, so nothing is hopped over.
     fn seek(&mut self, to: u64) -> Option<u32> {
+        let here = *self.list.get(self.place)?;
+        if u64::from(here) >= to {
+            return Some(here);
+        }
+        if self.may_hop(to) {
+            self.hop(to);
+        }
         while let Some(&x) = self.list.get(self.place) {
             if u64::from(x) >= to {
                 return Some(x);
@@ -25,6 +43,24 @@ impl Reader<'_> {
             self.place += 1;
         }
         None
+    }
+
+    fn may_hop(&self, to: u64) -> bool {
+        self.list.get(self.place + HOP - 1).is_some_and(|&x| u64::from(x) < to)
+    }
+
+    /// Apart from the single moves: where readers seldom hop, measured, up to a tenth of the time.
+    #[inline(never)]
+    fn hop(&mut self, to: u64) {
+        while self.may_hop(to) {
+            self.place += HOP;
+            self.hops += 1;
+        }
+    }
+
+    /// Every hop is one move, and so is every place that was not hopped over.
+    fn moves(&self) -> usize {
+        self.hops + (self.place - HOP * self.hops)
     }
 }
 
@@ -57,17 +93,18 @@ impl Node<'_> {
         }
     }
 
-    /// The readers' places in expression order, 0 at operators; answers the node behind this one.
-    fn places(&self, at: usize, places: &mut [u16; 48]) -> usize {
+    /// The readers' places in expression order, 0 at operators, and their moves added up; answers the node behind this one.
+    fn hand_back(&self, at: usize, places: &mut [u16; 48], moves: &mut u32) -> usize {
         let members: &[Node] = match self {
             Node::List(reader) => {
                 places[at] = reader.place as u16;
+                *moves += reader.moves() as u32;
                 &[]
             }
             Node::Difference(pair) => &pair[..],
             Node::Union(members) | Node::Intersection(members) => members,
         };
-        members.iter().fold(at + 1, |at, m| m.places(at, places))
+        members.iter().fold(at + 1, |at, m| m.hand_back(at, places, moves))
     }
 }
 
@@ -232,7 +269,7 @@ impl<'a> Parser<'_, 'a> {
                 if !delivered(self.word, number) {
                     return Err(18);
                 }
-                Ok(Node::List(Reader { list, place: 0 }))
+                Ok(Node::List(Reader { list, place: 0, hops: 0 }))
             }
             1 => Ok(Node::Difference(Box::new([self.node(depth + 1)?, self.node(depth + 1)?]))),
             2 => Ok(Node::Union(self.members(depth)?)),
@@ -293,10 +330,10 @@ pub fn run(
     for ((reply, &code), &d) in replies.iter_mut().zip(codes).zip(arguments) {
         *reply = machine.call(code, d).encode();
     }
-    let mut places = [0; 48];
-    machine.root.places(0, &mut places);
+    let (mut places, mut moves) = ([0; 48], 0);
+    machine.root.hand_back(0, &mut places, &mut moves);
     Ok(RunResult {
-        moves: places.iter().map(|&p| u32::from(p)).sum(),
+        moves,
         places,
         bookmark: machine.floor,
     })

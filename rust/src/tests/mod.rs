@@ -1,7 +1,9 @@
-//! The papers' small inputs and examples, lists that were not delivered, bounds, the iterator, and changes.
+//! The papers' small inputs and examples, lists that were not delivered, lists that readers hop over, bounds, the iterator, and
+//! changes.
 
 mod bounds;
 mod delivered;
+mod hops;
 mod members;
 mod paper;
 mod refusals;

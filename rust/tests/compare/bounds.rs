@@ -3,11 +3,11 @@
 use crate::evaluator::bounds::{self as model, lengths, Bounds};
 use crate::evaluator::expression::{read_packed, Tree};
 use crate::evaluator::lists::{delivered, Lists};
-use crate::evaluator::{self, TOP};
+use crate::evaluator::{self, steps, Begin, Source, TOP};
 use crate::ffi;
-use crate::inputs::{any_absent_bits, lend, lent_lists, long_list, packed, some_lists};
+use crate::inputs::{any_absent_bits, far_lists, lend, lent_lists, long_list, longest, packed, some_lists};
 use crate::random::{cases, seed, Random};
-use crate::runs::{begin, calls};
+use crate::runs::{begin, calls, far_run, sum, HOPPED};
 use crate::tally::Tally;
 
 /// The refusals that the call can give.
@@ -103,6 +103,10 @@ fn case(number: u64) -> Case {
         0..=2 => ends_alone(&mut random),
         3 => widest_lists(&mut random),
         4 => lent_lists(&mut random),
+        5 => {
+            let lists = far_lists(&mut random);
+            lend(&mut random, &lists)
+        }
         _ => {
             let lists = some_lists(&mut random);
             lend(&mut random, &lists)
@@ -142,14 +146,35 @@ impl Case {
         );
     }
 
-    /// A run of accepted lists: its replies that are members, its last reply, and its moves.
-    fn run(&self, bookmark: u64, codes: &[u8], arguments: &[u32]) -> (usize, Option<u64>, usize) {
+    /// A run of accepted lists: its replies that are members, its last reply, and its moves, which are the steps' and within both
+    /// the bound and the places.
+    fn run(
+        &self,
+        source: &Source,
+        most: &Bounds,
+        begin: Begin,
+        codes: &[u8],
+        arguments: &[u32],
+        tally: &mut Tally,
+    ) -> (usize, Option<u64>, usize) {
         let Lists { numbers, ends, word } = &self.lists;
+        let Begin { bookmark } = begin;
         let mut replies = vec![0; codes.len()];
         let result = zwailmoor::run(numbers, ends, *word, &self.packed, bookmark, codes, arguments, &mut replies);
-        let moves = result.expect("an accepted run").moves;
+        let result = result.expect("an accepted run");
+        let calls: Vec<(u8, u32)> = codes.iter().copied().zip(arguments.iter().copied()).collect();
+        let walk = steps::walk(&source.tree, &source.lists, begin, &calls);
+        let case = || format!("{codes:?}, {arguments:?} from {bookmark}: {self:#?}");
+        assert_eq!((result.moves, result.places), (walk.moves(), walk.places), "{}", case());
+        let (moves, all) = (result.moves as usize, sum(&result.places) as usize);
+        assert!(
+            moves <= all && all <= most.moves,
+            "{moves} moves over {all} places by {}",
+            case()
+        );
+        tally.edge(HOPPED, moves < all);
         let members = replies.iter().filter(|reply| **reply < TOP).count();
-        (members, replies.last().copied(), moves as usize)
+        (members, replies.last().copied(), moves)
     }
 
     /// Runs over the lists, if they have accepted numbers and the expression names none that was not delivered.
@@ -165,20 +190,24 @@ impl Case {
         // What is reserved for next calls is enough to draw everything from any bookmark.
         let room = most.members + 1;
         for bookmark in [0, begin(random).bookmark.min(TOP)] {
-            let (drawn, last, moves) = self.run(bookmark, &vec![0; room], &vec![0; room]);
+            let begin = Begin { bookmark };
+            let (drawn, last, moves) = self.run(&source, most, begin, &vec![0; room], &vec![0; room], tally);
             let left = source.set.iter().filter(|member| u64::from(**member) >= bookmark).count();
             assert_eq!((drawn, last), (left, Some(FINISHED)), "from {bookmark}: {self:#?}");
-            assert!(moves <= most.moves, "{moves} moves from {bookmark}: {self:#?}");
             tally.edge("as many moves", moves == most.moves);
             tally.edge("fewer moves", moves < most.moves);
         }
 
-        let (codes, arguments) = calls(random, &self.lists.numbers);
-        let (drawn, _, moves) = self.run(0, &codes, &arguments);
-        let within = drawn <= most.members && moves <= most.moves;
+        let (begin, codes, arguments) = if longest(&self.lists) as usize >= steps::HOP {
+            far_run(random, &source.lists)
+        } else {
+            let (codes, arguments) = calls(random, &self.lists.numbers);
+            (Begin::default(), codes, arguments)
+        };
+        let (drawn, ..) = self.run(&source, most, begin, &codes, &arguments, tally);
         assert!(
-            within,
-            "{drawn} members and {moves} moves by {codes:?}, {arguments:?}: {self:#?}"
+            drawn <= most.members,
+            "{drawn} members by {codes:?}, {arguments:?}: {self:#?}"
         );
     }
 
@@ -310,4 +339,5 @@ fn bounds() {
         tally.count(&expected);
     }
     tally.close("bounds", seed(), REFUSALS);
+    tally.demand(HOPPED, 20);
 }

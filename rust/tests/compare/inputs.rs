@@ -244,6 +244,68 @@ pub fn lend(random: &mut Random, lists: &Each) -> Lists {
     }
 }
 
+/// Lengths on both sides of a hop and of several, and others beyond one.
+fn far_length(random: &mut Random) -> usize {
+    match random.below(4) {
+        0 => random.pick(&[63, 64, 65]),
+        1 => random.pick(&[127, 128, 129]),
+        2 => random.pick(&[62, 66, 126, 130, 191, 192, 193]),
+        _ => random.between(64, 200),
+    }
+}
+
+/// A list that readers hop over, its numbers close together.
+fn far_list(random: &mut Random) -> Vec<u32> {
+    let length = far_length(random);
+    let widest = random.pick(&[1, 1, 2, 3, 9]);
+    let mut number = random.below(4) as u32;
+    let mut list = Vec::new();
+    for _ in 0..length {
+        list.push(number);
+        number += random.between(1, widest) as u32;
+    }
+    list
+}
+
+/// 1 to 4 lists at either end of the numbers, one of them or more so long that readers hop; seldom one was not delivered.
+pub fn far_lists(random: &mut Random) -> Each {
+    let count = random.between(1, 4);
+    let far = random.below(count);
+    let mut lists: Each = (0..count)
+        .map(|k| match random.below(12) {
+            _ if k == far => Some(far_list(random)),
+            0 => None,
+            1..=4 => Some((0..random.below(200) as u32).step_by(random.between(7, 90)).collect()),
+            _ => Some(far_list(random)),
+        })
+        .collect();
+    if random.one_in(3) {
+        // Turned round, so that the last numbers are about 4,294,967,295.
+        for list in lists.iter_mut().flatten() {
+            *list = list.iter().rev().map(|number| u32::MAX - number).collect();
+        }
+    }
+    lists
+}
+
+/// Calls that go up a list by steps on both sides of a hop and of two.
+pub fn far_calls(random: &mut Random, list: &[u32]) -> (Vec<u8>, Vec<u32>) {
+    let checks_alone = random.one_in(4);
+    let mut place = 0;
+    let mut codes = Vec::new();
+    let mut arguments = Vec::new();
+    for _ in 0..random.between(1, 6) {
+        place += random.pick(&[0, 1, 2, 31, 62, 63, 63, 64, 64, 65, 66, 127, 128, 129]);
+        let number = match list.get(place) {
+            Some(number) => *number,
+            None => random.pick(&[u32::MAX, u32::MAX, list[list.len() - 1]]),
+        };
+        codes.push(if checks_alone { 3 } else { random.pick(&[0, 1, 1, 2, 3]) });
+        arguments.push(random.pick(&[number, number, number.saturating_add(1), number.saturating_sub(1)]));
+    }
+    (codes, arguments)
+}
+
 /// A list of about the greatest length: 65,535 is accepted, 65,536 is not.
 pub fn long_list(random: &mut Random) -> Vec<u32> {
     let size = random.pick(&[65_535, 65_536, 65_537]);

@@ -1,9 +1,12 @@
 //! Runs, whole and broken off, and the iterator over pages.
 
-use crate::evaluator::lists::Lists;
+use crate::evaluator::lists::{Each, Lists};
+use crate::evaluator::steps::{Sought, HOP};
 use crate::evaluator::{self, Begin, RunResult, TOP};
 use crate::ffi;
-use crate::inputs::{absent_bits, lend, lent_lists, long_list, longest, number, number_near, packed, same_word, some_lists};
+use crate::inputs::{
+    absent_bits, far_calls, far_lists, lend, lent_lists, long_list, longest, number, number_near, packed, same_word, some_lists,
+};
 use crate::random::{cases, seed, Random};
 use crate::rows::Lent;
 use crate::tally::Tally;
@@ -66,11 +69,23 @@ pub fn calls(random: &mut Random, numbers: &[u32]) -> (Vec<u8>, Vec<u32>) {
     (codes, arguments)
 }
 
+/// Calls and where they begin, over lists of which one or more are about so long that readers hop.
+pub fn far_run(random: &mut Random, lists: &Each) -> (Begin, Vec<u8>, Vec<u32>) {
+    let far: Vec<&Vec<u32>> = lists.iter().flatten().filter(|list| list.len() > 60).collect();
+    let list = random.pick(&far);
+    let (codes, arguments) = far_calls(random, list);
+    let inside = u64::from(random.pick(list)) + random.below(2) as u64;
+    let bookmark = random.pick(&[0, 0, 0, inside]);
+    (Begin { bookmark }, codes, arguments)
+}
+
 fn case(number: u64) -> Run {
     let mut random = Random::of_case(seed() ^ 6, number);
     let lists = if random.one_in(4000) {
         let lists = [some_lists(&mut random), vec![Some(long_list(&mut random))]].concat();
         lend(&mut random, &lists)
+    } else if random.one_in(6) {
+        return far_case(&mut random, number);
     } else if random.one_in(2) {
         let lists = some_lists(&mut random);
         lend(&mut random, &lists)
@@ -91,6 +106,24 @@ fn case(number: u64) -> Run {
         lists,
         packed,
         begin: begin(&mut random),
+        codes,
+        arguments,
+        room,
+    }
+}
+
+/// Nothing is wrong with it but, at times, its expression or a list that was not delivered.
+fn far_case(random: &mut Random, number: u64) -> Run {
+    let each = far_lists(random);
+    let lists = lend(random, &each);
+    let packed = packed(random, &lists);
+    let (begin, codes, arguments) = far_run(random, &each);
+    let room = codes.len();
+    Run {
+        number,
+        lists,
+        packed,
+        begin,
         codes,
         arguments,
         room,
@@ -216,6 +249,68 @@ fn edges(tally: &mut Tally, case: &Run, result: &RunResult) {
     }
 }
 
+/// The sum of the places.
+pub fn sum(places: &[u16; 48]) -> u32 {
+    places.iter().map(|place| u32::from(*place)).sum()
+}
+
+/// A run whose readers hopped makes fewer moves than its places say.
+pub const HOPPED: &str = "hopped";
+
+/// Of runs over lists that readers may hop over: how they did, and how they just did not.
+fn hop_edges(tally: &mut Tally, case: &Run, result: &RunResult) {
+    let all = sum(&result.places);
+    assert!(
+        result.moves <= all && (all - result.moves).is_multiple_of(63),
+        "a hop is one move for 64 places: {case:#?}"
+    );
+    tally.edge(HOPPED, result.moves < all);
+    if longest(&case.lists) < 63 {
+        return;
+    }
+    let source = evaluator::source(&case.lists, &case.packed, case.begin).expect("an accepted run");
+    let calls: Vec<(u8, u32)> = case.codes.iter().copied().zip(case.arguments.iter().copied()).collect();
+    let seeks = evaluator::steps::walk(&source.tree, &source.lists, case.begin, &calls).seeks;
+    let leaves = source.tree.leaves();
+    for (list, seeks) in leaves.iter().zip(&seeks) {
+        let list = source.lists[*list].as_deref().expect("a list that is named");
+        seeks.iter().for_each(|sought| sought_edges(tally, list, sought));
+    }
+    let hopped = |seeks: &[Sought]| seeks.iter().any(|sought| sought.hops > 0);
+    let in_checks = result.moves < all && case.codes.iter().all(|code| *code == 3);
+    tally.edge("hops, in checks alone", in_checks);
+    let mut hoppers: Vec<usize> = leaves
+        .iter()
+        .zip(&seeks)
+        .filter(|(_, seeks)| hopped(seeks))
+        .map(|(list, _)| *list)
+        .collect();
+    hoppers.sort();
+    tally.edge(
+        "hops, over one list at two leaves",
+        hoppers.windows(2).any(|pair| pair[0] == pair[1]),
+    );
+    tally.edge("hops, over two lists", hoppers.windows(2).any(|pair| pair[0] != pair[1]));
+}
+
+fn sought_edges(tally: &mut Tally, list: &[u32], sought: &Sought) {
+    let Sought { from, e, hops, singles } = *sought;
+    let left = list.len() - from;
+    let last = list.get(from + HOP - 1).map(|number| u64::from(*number));
+    tally.edge("hops, two in one seek", hops > 1);
+    tally.edge("hops, from inside the list", hops > 0 && from > 0);
+    tally.edge("hops, to the list's end", hops > 0 && left == HOP * hops as usize);
+    tally.edge("hops, then single moves", hops > 0 && singles > 0);
+    tally.edge("hops, then 63 single moves", hops > 0 && singles == 63);
+    tally.edge("hops, to 4,294,967,296", hops > 0 && e == TOP);
+    tally.edge(
+        "hops, the 64th just below E",
+        hops > 0 && last.is_some_and(|last| last + 1 == e),
+    );
+    tally.edge("no hop, the 64th being E", last == Some(e) && singles == 63);
+    tally.edge("no hop, 63 being left", left == 63 && singles == 63);
+}
+
 /// What would have been refused if every list had been delivered.
 fn refused_edges(tally: &mut Tally, case: &Run, refused: u32) {
     if refused != 10 && refused != 18 {
@@ -250,6 +345,7 @@ fn run() {
         if let Ok(whole) = &expected {
             case.compare_broken_off(whole, random.below(case.codes.len() + 1));
             edges(&mut tally, &case, whole);
+            hop_edges(&mut tally, &case, whole);
         }
         refused_edges(&mut tally, &case, expected.as_ref().err().copied().unwrap_or(0));
         let iterated = random.one_in(4) && case.lists.numbers.len() < 2000;
@@ -260,4 +356,5 @@ fn run() {
         tally.count(&expected);
     }
     tally.close("run", seed(), REFUSALS);
+    tally.demand(HOPPED, 20);
 }

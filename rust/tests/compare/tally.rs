@@ -23,6 +23,12 @@ impl Tally {
         *self.edges.entry(name).or_default() += u64::from(met);
     }
 
+    /// Asserts that an edge was met once in so many cases, or more often.
+    pub fn demand(&self, name: &str, times: u64) {
+        let (met, cases) = (self.edges[name], self.numbers.iter().sum::<u64>());
+        assert!(met * times >= cases, "{name}: met in {met} of {cases} cases alone");
+    }
+
     /// Prints the counts, and asserts that these refusals were met, success too, and no others.
     pub fn close(&self, call: &str, seed: u64, refusals: &[usize]) {
         let met = |number: &usize| self.numbers[*number] > 0;

@@ -1,5 +1,5 @@
-//! A second evaluator, made apart, from the paper: sets are `BTreeSet`, bits are a row of truth values, readers move one at a
-//! time. It is slow and plain, and shares nothing with the engine.
+//! A second evaluator, made apart, from the papers: sets are `BTreeSet`, bits are a row of truth values, readers hop and move
+//! singly, and each move is counted as it is made. It is slow and plain, and shares nothing with the engine.
 //!
 //! Every function answers what the paper sends back: the elements written, or the refusal's number.
 
@@ -71,12 +71,12 @@ pub fn run(
     }
     let calls: Vec<(u8, u32)> = codes.iter().copied().zip(arguments.iter().copied()).collect();
     let (replies, last) = machine::replies(&source.set, begin, &calls);
-    let (places, by_steps) = steps::places(&source.tree, &source.lists, begin, &calls);
-    assert_eq!(by_steps, last, "the steps and the machine of this evaluator differ");
+    let walk = steps::walk(&source.tree, &source.lists, begin, &calls);
+    assert_eq!(walk.last, last, "the steps and the machine of this evaluator differ");
     Ok(RunResult {
         replies,
-        moves: places.iter().map(|place| u32::from(*place)).sum(),
-        places,
+        moves: walk.moves(),
+        places: walk.places,
         last,
     })
 }

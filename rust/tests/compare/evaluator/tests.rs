@@ -5,7 +5,7 @@ use super::delivery::{decode, downgrade, encode, stored, upgrade, Form};
 use super::expression::{pack, unpack};
 use super::lists::{accepted, delivered, lent, part, Lists};
 use super::update::{update, Change, Kept};
-use super::{run, Begin};
+use super::{run, Begin, RunResult, TOP};
 
 const OLD: [u8; 8] = [0x04, 0x00, 0x0C, 0x00, 0x00, 0x00, 0x08, 0x08];
 const NEW: [u8; 8] = [0x06, 0x00, 0x06, 0x00, 0x00, 0x00, 0x04, 0x04];
@@ -125,4 +125,152 @@ fn how_large() {
         [of(&[2], &[]), of(&[2], &[0x02]), of(&[2], &[0x01])],
         [Err(1), Err(4), Err(5)]
     );
+}
+
+/// A run from the start.
+fn steps(lists: &[Vec<u32>], packed: &[u8], calls: &[(u8, u32)]) -> RunResult {
+    let lists: Vec<Option<Vec<u32>>> = lists.iter().cloned().map(Some).collect();
+    let (codes, arguments): (Vec<u8>, Vec<u32>) = calls.iter().copied().unzip();
+    run(&lent(&lists), packed, Begin::default(), &codes, &arguments, calls.len()).expect("an accepted run")
+}
+
+const FINISHED: u64 = TOP + 2;
+
+#[test]
+fn papers() {
+    let lists = [
+        vec![0, 1, 2, 5, 6, 8, 9],
+        vec![0, 2, 3, 4, 5],
+        vec![2, 3, 6, 8, 9],
+        vec![0, 1, 2, 3, 7, 9],
+    ];
+    // P1 and P2: list 0 less list 3.
+    let difference = [0x40, 0x03];
+    let p1 = steps(&lists, &difference, &[(0, 0); 4]);
+    assert_eq!((p1.replies, p1.moves), (vec![5, 6, 8, FINISHED], 12));
+    assert_eq!(p1.places[..4], [0, 7, 5, 0]);
+    let p2 = steps(&lists, &difference, &[(0, 0)]);
+    assert_eq!((p2.replies, p2.last.bookmark, p2.moves), (vec![5], 6, 7));
+    // P3: their union; it ends with every number passed.
+    let p3 = steps(&lists, &[0x98, 0x00, 0x20, 0x81, 0x80], &[(0, 0); 11]);
+    assert_eq!(p3.replies, [0, 1, 2, 3, 4, 5, 6, 7, 8, 9, FINISHED]);
+    assert_eq!((&p3.places[..5], p3.moves), (&[0, 7, 5, 5, 6][..], 23));
+    // P4: their intersection.
+    let intersection = [0xD8, 0x00, 0x20, 0x81, 0x80];
+    let p4 = steps(&lists, &intersection, &[(0, 0)]);
+    assert_eq!((p4.replies, p4.moves), (vec![2], 5));
+    let p4 = steps(&lists, &intersection, &[(0, 0); 2]);
+    assert_eq!((p4.replies, p4.moves), (vec![2, FINISHED], 13));
+}
+
+/// A list of so many numbers, 10 20 30 and so on: the 64th is 640, the 128th 1280.
+fn tens(length: u32) -> Vec<u32> {
+    (1..=length).map(|i| 10 * i).collect()
+}
+
+/// What comes of these calls over one list: the last reply, the moves, the place.
+fn over(length: u32, calls: &[(u8, u32)]) -> (u64, u32, u16) {
+    let run = steps(&[tens(length)], &[0x00], calls);
+    (*run.replies.last().expect("a call"), run.moves, run.places[0])
+}
+
+/// Past the greatest number: E is 4,294,967,296.
+const PAST_ALL: (u8, u32) = (2, u32::MAX);
+
+#[test]
+fn hops() {
+    let to = |e| (1, e);
+    for (length, call, reply, moves, place) in [
+        // 63 are too few to hop over.
+        (63, to(630), 630, 62, 62),
+        (63, to(631), FINISHED, 63, 63),
+        (63, to(641), FINISHED, 63, 63),
+        (63, PAST_ALL, FINISHED, 63, 63),
+        // The 64th has to be below E.
+        (64, to(639), 640, 63, 63),
+        (64, to(640), 640, 63, 63),
+        (64, to(641), FINISHED, 1, 64),
+        (64, PAST_ALL, FINISHED, 1, 64),
+        (65, to(639), 640, 63, 63),
+        (65, to(640), 640, 63, 63),
+        (65, to(641), 650, 1, 64),
+        (65, to(650), 650, 1, 64),
+        (65, to(651), FINISHED, 2, 65),
+        (65, PAST_ALL, FINISHED, 2, 65),
+        // A second hop, or 63 single moves behind the first.
+        (128, to(640), 640, 63, 63),
+        (128, to(641), 650, 1, 64),
+        (128, to(661), 670, 3, 66),
+        (128, to(1279), 1280, 64, 127),
+        (128, to(1280), 1280, 64, 127),
+        (128, to(1281), FINISHED, 2, 128),
+        (128, PAST_ALL, FINISHED, 2, 128),
+        (129, to(641), 650, 1, 64),
+        (129, to(1280), 1280, 64, 127),
+        (129, to(1281), 1290, 2, 128),
+        (129, to(1291), FINISHED, 3, 129),
+        (129, PAST_ALL, FINISHED, 3, 129),
+    ] {
+        assert_eq!(over(length, &[call]), (reply, moves, place), "{length}, {call:?}");
+    }
+}
+
+#[test]
+fn hops_from_the_middle() {
+    // At 20 the place is 1, by one move: the 64th from there is 650.
+    for (length, call, reply, moves, place) in [
+        (63, PAST_ALL, FINISHED, 1 + 62, 63),
+        (64, PAST_ALL, FINISHED, 1 + 63, 64),
+        (65, (1, 650), 650, 1 + 63, 64),
+        (65, (1, 651), FINISHED, 1 + 1, 65),
+        (65, PAST_ALL, FINISHED, 1 + 1, 65),
+        (128, (1, 641), 650, 1 + 63, 64),
+        (128, (1, 651), 660, 1 + 1, 65),
+        (128, PAST_ALL, FINISHED, 1 + 1 + 63, 128),
+        (129, (1, 1290), 1290, 1 + 1 + 63, 128),
+        (129, PAST_ALL, FINISHED, 1 + 2, 129),
+    ] {
+        assert_eq!(over(length, &[(1, 20), call]), (reply, moves, place), "{length}, {call:?}");
+    }
+    // At 640, by 63 single moves, the 64th from there is 1270.
+    assert_eq!(over(129, &[(1, 640), (1, 1270)]), (1270, 63 + 63, 126));
+    assert_eq!(over(129, &[(1, 640), (1, 1271)]), (1280, 63 + 1, 127));
+    // At 650, by a hop, it is 1280.
+    assert_eq!(over(129, &[(1, 650), (1, 1280)]), (1280, 1 + 63, 127));
+    assert_eq!(over(129, &[(1, 650), (1, 1281)]), (1290, 1 + 1, 128));
+    // From draw to draw no reader hops.
+    assert_eq!(over(129, &[(0, 0); 130]), (FINISHED, 129, 129));
+}
+
+#[test]
+fn hops_in_checks() {
+    const NO: u64 = TOP;
+    const YES: u64 = TOP + 1;
+    for (length, d, reply, moves, place) in [
+        (63, 641, NO, 63, 63),
+        (64, 640, YES, 63, 63),
+        (64, 641, NO, 1, 64),
+        (65, 650, YES, 1, 64),
+        (128, 1280, YES, 64, 127),
+        (129, 1290, YES, 2, 128),
+        (129, u32::MAX, NO, 3, 129),
+    ] {
+        assert_eq!(over(length, &[(3, d)]), (reply, moves, place), "{length}, {d}");
+    }
+    // A check leaves the floor at its number, and moves no reader where it is made again.
+    assert_eq!(over(129, &[(3, 650), (3, 650), (3, 1290)]), (YES, 2, 128));
+}
+
+/// Each leaf has its own reader, also of the same list.
+#[test]
+fn hops_of_each_leaf() {
+    // List 0 less list 1: from 641 on the first hops to 650, and the second, of 63 numbers, moves 63 times.
+    let run = steps(&[tens(65), tens(63)], &[0x40, 0x01], &[(1, 641)]);
+    assert_eq!((run.replies[0], run.moves, &run.places[..3]), (650, 1 + 63, &[0, 64, 63][..]));
+    // The union of a list with itself.
+    let run = steps(&[tens(129)], &[0x88, 0x00, 0x00], &[(1, 651)]);
+    assert_eq!((run.replies[0], run.moves, &run.places[..3]), (660, 2 + 2, &[0, 65, 65][..]));
+    // The intersection with 645 and 1290: the first hops to 650 and to 1290, and the second moves once.
+    let run = steps(&[tens(129), vec![645, 1290]], &[0xC8, 0x00, 0x20], &[(0, 0)]);
+    assert_eq!((run.replies[0], run.moves, &run.places[..3]), (1290, 3, &[0, 128, 1][..]));
 }

@@ -4,12 +4,17 @@ use super::Update;
 use crate::evaluator::lists::{self, Lists};
 use crate::evaluator::update::{Change, Kept};
 use crate::evaluator::{self, Begin};
-use crate::inputs::{lend, lent_lists, long_list, name_delivered, number, number_near, packed, packed_anyway, some_lists};
+use crate::inputs::{
+    far_lists, lend, lent_lists, long_list, name_delivered, number, number_near, packed, packed_anyway, some_lists,
+};
 use crate::random::{seed, Random};
 
 /// Lists, and a packed expression over them.
 fn source(random: &mut Random) -> (Lists, Vec<u8>) {
-    let lists = if random.one_in(2) {
+    let lists = if random.one_in(16) {
+        let lists = far_lists(random);
+        lend(random, &lists)
+    } else if random.one_in(2) {
         let lists = some_lists(random);
         lend(random, &lists)
     } else {

@@ -2,6 +2,7 @@
 
 use super::Update;
 use crate::evaluator::lists::delivered;
+use crate::evaluator::steps::{walk, HOP};
 use crate::evaluator::update::{Change, Kept, Updated};
 use crate::evaluator::{self, Begin, Source};
 use crate::inputs::{absent_bits, longest};
@@ -39,6 +40,17 @@ impl Update {
         let mut all_came = self.clone();
         all_came.lists.word = u32::MAX;
         all_came
+    }
+
+    /// Whether a reader hops when the members are drawn to be compared with the row, of accepted lists and expression.
+    fn hops(&self) -> bool {
+        if (longest(&self.lists) as usize) < HOP {
+            return false;
+        }
+        let source = evaluator::source(&self.lists, &self.packed, Begin::default()).expect("an accepted source");
+        let nexts = vec![(0, 0); source.set.len() + 1];
+        let seeks = walk(&source.tree, &source.lists, Begin::default(), &nexts).seeks;
+        seeks.iter().flatten().any(|sought| sought.hops > 0)
     }
 
     /// Whether a number that is added is then a member.
@@ -141,4 +153,5 @@ pub fn accepted(tally: &mut Tally, case: &Update, updated: &Updated) {
     tally.edge("4,294,967,295", number == u32::MAX);
     tally.edge("48 nodes", tree.row().len() == 48);
     tally.edge("depth 12", tree.depth() == 12);
+    tally.edge("readers hop", case.hops());
 }
