@@ -307,16 +307,18 @@ pub fn selective(case: &Case) -> bool {
     matches!(case.tree, Tree::Intersection(_)) && lengths.clone().min().unwrap_or(0) * 100 < lengths.max().unwrap_or(0)
 }
 
-/// How many seeks of a reader it takes to draw all members of an intersection of lists: the candidate goes from list to list, and from
-/// the first again where it grew.
-fn seeks(lists: &[Vec<u32>]) -> u64 {
-    let (mut seeks, mut candidate) = (0, 0);
+/// How many seeks go far, over 64 numbers or more, where all members of an intersection of lists are drawn: the candidate goes from list
+/// to list, and from the first again where it grew.
+fn far_seeks(lists: &[Vec<u32>]) -> u64 {
+    let (mut far, mut candidate, mut places) = (0, 0, vec![0; lists.len()]);
     loop {
         let mut at = 0;
         while let Some(list) = lists.get(at) {
-            seeks += 1;
-            let Some(&answer) = list.get(list.partition_point(|&x| x < candidate)) else {
-                return seeks;
+            let place = list.partition_point(|&x| x < candidate);
+            far += u64::from(place - places[at] >= 64);
+            places[at] = place;
+            let Some(&answer) = list.get(place) else {
+                return far;
             };
             at = if answer > candidate && at > 0 { 0 } else { at + 1 };
             candidate = answer;
@@ -328,19 +330,19 @@ fn seeks(lists: &[Vec<u32>]) -> u64 {
 fn print_moves(drawn: &[Drawn]) {
     let mut table = Table::new(&[
         "case",
-        "seeks of a reader",
+        "seeks over 64 numbers or more",
         "sum of the places",
-        "a seek",
+        "to such a seek",
         "moves",
-        "a seek",
+        "to such a seek",
         "times fewer",
     ]);
     for d in drawn.iter().filter(|d| selective(&d.case)) {
-        let (Moves { made, places, .. }, seeks) = (d.moves, seeks(&d.case.lists));
-        let each = |moves: u64| format!("{:.1}", moves as f64 / seeks as f64);
+        let (Moves { made, places, .. }, far) = (d.moves, far_seeks(&d.case.lists));
+        let each = |moves: u64| format!("{:.1}", moves as f64 / far as f64);
         table.row(vec![
             d.case.name.clone(),
-            grouped(seeks),
+            grouped(far),
             grouped(places),
             each(places),
             grouped(made),

@@ -2,7 +2,7 @@
 use mathlib.Core.Path.{_≡_, refl, sym, ap, _∙_}
 use mathlib.Core.Bool.{Bool, true, false}
 use mathlib.Core.List.{List, [], _∷_}
-use Prim.Native.Nat.{ℕ, zero, suc, _+_, _-_, _*_, _≤_, _<_}
+use Prim.Native.Nat.{ℕ, zero, suc, _+_, _-_, _*_, _/_, _≤_, _<_}
 use native.Mathlib.Omega.{arith}
 use native.Mathlib.Numerals.{add-one}
 use borrow.Author.Tests.{lt-ltb, le-ltb, ltb-true, ltb-false}
@@ -64,6 +64,13 @@ module _ (list : List ℕ) (at to : ℕ) where
       → (k : ℕ) → k < n + 1 → hops (drop (place + 64 * k) list) to ≡ true
   one-more-hop place n is here each k h = split (hops (drop (place + 64 * k) list) to ≡ true) k n (each k)
       (λ last. let same : place + 64 * k ≡ at = omega (arith, is) in rw same here)
+
+-- so many hops, each where it hops, lead to where it stands, and it hops no more
+pub hops-counted : (list : List ℕ) (place to stand n last moves : ℕ) → last ≡ stand → moves ≡ (stand - place) / 64 → stand ≡ place + 64 * n
+    → ((k : ℕ) → k < n → hops (drop (place + 64 * k) list) to ≡ true) → hops (drop stand list) to ≡ false → Hopped list place to last moves
+hops-counted list place to stand n last moves here counts far each ended =
+    let so-many : moves ≡ n = omega (arith, counts, far) in
+    rw (here, so-many) (record { far = far; each = each; ended = ended })
 
 -- ---- by hops and then singly
 

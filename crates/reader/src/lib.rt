@@ -2,7 +2,7 @@
 ghost use mathlib.Core.Path.{_≡_};
 ghost use mathlib.Core.Bool.{true};
 ghost use mathlib.Core.List.{[]};
-ghost use Prim.Native.Nat.{ℕ, _+_, _≤_, _<_};
+ghost use Prim.Native.Nat.{ℕ, _+_, _-_, _/_, _≤_, _<_};
 ghost use lib.ListN.{length, getD, drop};
 ghost use Rattle.model.specs.Outcome.{accepted};
 ghost use Rattle.model.specs.Lists.{top, ascending, lists-from};
@@ -82,6 +82,17 @@ struct Progress {
     moves: usize,
 }
 
+// The hops from one place to another, 64 places and one move each.
+fn hops_between(place: usize, at: usize) -> Progress
+    requires { ⌜ place ≤ at ⌝ }
+    ensures { λ r. ⌜ (r .at ≡ at) × (r .moves ≡ (at - place) / 64) ⌝ }
+{
+    Progress {
+        at,
+        moves: (at - place) / 64,
+    }
+}
+
 // "while at least 64 numbers remain from its place and the 64th of them is below E, the place grows by 64 and that counts one
 // move".
 fn hop(list: &[u32], place: usize, to: u64) -> Progress
@@ -89,15 +100,13 @@ fn hop(list: &[u32], place: usize, to: u64) -> Progress
     ensures { λ r. ⌜ Hopped (now (list .entry)) place to (r .at) (r .moves) ⌝ }
 {
     let mut at = place;
-    let mut moves: usize = 0;
     while at + 64 <= list.len() {
         if to <= wide(list[at + 63]) {
-            return Progress { at, moves };
+            return hops_between(place, at);
         }
         at += 64;
-        moves += 1;
     }
-    Progress { at, moves }
+    hops_between(place, at)
 }
 
 // "the place is inside the list and the number there is below E".
