@@ -196,8 +196,8 @@ zwailmoor_span zwailmoor_list_span(const uint32_t *numbers, size_t numbers_lengt
  * every list counts as delivered.
  *   - `members`: a list has as many as it is long, a union at most the sum of its nodes', an intersection the least of them, a
  *     difference its first node's. For a single list it is exact.
- *   - `moves`: the lengths of the leaves' lists added up, a list once for each leaf it stands at. No run makes more; where readers
- *     hop, a run makes far fewer.
+ *   - `moves`: the lengths of the leaves' lists added up, a list once for each leaf it stands at. No run makes more; each
+ *     hop of a reader spares 63.
  *   - `bytes`: the most that a delivery of lists with these ends can fill, whether the expression names them or not. They are all
  *     filled where every list was delivered, and each of two numbers or more needs the width of 32.
  * To reserve by it: `members` + 1 replies, and as many codes and arguments, are enough for a run of next calls to draw everything

@@ -205,7 +205,7 @@ fn breaks(
     accepted && placed && ended && are_joined(whole, &one, &two, k)
 }
 
-// How far the readers move in a run of so many nexts, at most 513.
+// How many moves the readers make in a run of so many nexts, at most 513.
 fn moves_of(numbers: &[u32], lists: Lists, packed: &[u8], nexts: usize) -> u32 {
     let codes = [0u8; 513];
     let zeros = [0u32; 513];

@@ -124,8 +124,8 @@ fn run(line: &[u8]) -> Line {
     }
     let ends = lists.ends;
     let end_front = marks::front_32(&ends, lists.count);
-    let laid = evaluator::laid(end_front, given::number_of(word.value));
-    run_of_nodes(line, long::front(&row, lists.numbers), laid)
+    let lent = evaluator::laid(end_front, given::number_of(word.value));
+    run_of_nodes(line, long::front(&row, lists.numbers), lent)
 }
 
 fn run_of_nodes(line: &[u8], numbers: &[u32], lists: Lists) -> Line {
@@ -162,13 +162,13 @@ fn of_lists(line: &[u8], kind: &[u8]) -> Line {
     }
     let end_row = ends.row;
     let end_front = marks::front_32(&end_row, ends.count);
-    let laid = evaluator::laid(end_front, given::number_of(word.value));
+    let lent = evaluator::laid(end_front, given::number_of(word.value));
     let mut row = [0u32; 65536];
     let numbers = laid::numbers(line, 2, &mut row);
     if !numbers.good {
         return Line::Unread;
     }
-    lent_lists(line, kind, long::front(&row, numbers.numbers), laid)
+    lent_lists(line, kind, long::front(&row, numbers.numbers), lent)
 }
 
 // test | .., rows | .., update | .., part | .. | list number, encode | .. [| room]

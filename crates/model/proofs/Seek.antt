@@ -258,7 +258,7 @@ module _ (i m j : ℕ) (F G : Set) (im : i ≤ m) (mj : m ≤ j) (Fl : Local i m
       (λ x rs₁ s. inter-rest e x (rs .places) (rs₁ .places) jl (s .1) (s .0) (g x rs₁) (Gg x rs₁ (omega (arith, s .1 .small)) (omega (arith, s .0 .kept .long))) (intersect n f g)
       (λ y rs₂ h₁ h₂ h₃. inter-seek f g Ff Gg n y rs₂ (omega (arith, s .1 .from)) (omega arith) h₃))
 
--- reader
+-- ---- the reader
 
 -- the moves to e over an ascending list leave what is at or above e, and nothing below
 passed-from : (l : List ℕ) (e : ℕ) → drop (passed l e) l ≡ from e l

@@ -22,11 +22,12 @@ pub record Reader-hops (ls : List (List ℕ)) (k i e : ℕ) (rs : Readers) : Typ
   pub then-singly : let place = getD (rs .places) i 0 in (place + 64 ≤ length (getD ls k []) → e ≤ getD (getD ls k []) (place + 63) 0)
       → seek ls (leaf k) i e rs ≡ seek-by singly ls (leaf k) i e rs
 
--- one call from one state: as it was in all but the moves
+-- one call from one state: as it was in all but the moves, of which it makes no more
 pub record Step-as-before (s : Source) (state : State) (c : Call) : Type 0 where
   pub reply : step (s .lists) (s .tree) state c .0 ≡ step-by singly (s .lists) (s .tree) state c .0
   pub floor : step (s .lists) (s .tree) state c .1 .floor ≡ step-by singly (s .lists) (s .tree) state c .1 .floor
   pub places : step (s .lists) (s .tree) state c .1 .readers .places ≡ step-by singly (s .lists) (s .tree) state c .1 .readers .places
+  pub moves : step (s .lists) (s .tree) state c .1 .readers .moves ≤ step-by singly (s .lists) (s .tree) state c .1 .readers .moves
 
 -- one run: what the call sends back, beside the run that it was
 module _ (l : Lent) (expression : List ℕ) where

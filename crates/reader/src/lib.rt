@@ -146,13 +146,17 @@ fn advance(list: &[u32], place: usize, to: u64) -> Progress
             moves: 1,
         };
     }
-    let h = hop(list, place, to);
-    let from = if h.moves == 0 { place + 2 } else { h.at };
+    let hopped = hop(list, place, to);
+    let from = if hopped.moves == 0 {
+        place + 2
+    } else {
+        hopped.at
+    };
     let at = moved(list, from, to);
-    let singles = at - h.at;
+    let singles = at - hopped.at;
     Progress {
         at,
-        moves: h.moves + singles,
+        moves: hopped.moves + singles,
     }
 }
 

@@ -80,7 +80,7 @@ module _ (l : Lent) (expression : List ℕ) (n : Numbers (l .numbers)) (s : Sour
   every-step : (state : State) (c : Call) → Step-as-before s state c
   every-step state c =
       let a = step-alike Same-places hopping singly (s .lists) (λ k. read-alike (getD (s .lists) k []) (up l expression n s is k)) (s .tree) c state state refl (refl, omega arith) in
-      record { reply = a .reply; floor = a .floor; places = a .readers .0 }
+      record { reply = a .reply; floor = a .floor; places = a .readers .0; moves = a .readers .1 }
 
   module _ (start : Start) (low : Low start) (codes ds lent : List ℕ) (many : length codes ≡ length ds) (room : length codes ≤ length lent) where
     every-run : Run-as-before l expression s start codes ds lent (run-by singly (s .lists) (s .tree) start (calls codes ds))

@@ -116,6 +116,14 @@ fn case(number: u64) -> Case {
     Case { number, lists, packed }
 }
 
+/// What a run comes to: its replies that are members, its last reply, its moves, and whether readers hopped.
+struct Ran {
+    members: usize,
+    last: Option<u64>,
+    moves: usize,
+    hopped: bool,
+}
+
 impl Case {
     fn expected(&self) -> Result<Bounds, u32> {
         model::bounds(&self.lists.ends, &self.packed)
@@ -146,17 +154,8 @@ impl Case {
         );
     }
 
-    /// A run of accepted lists: its replies that are members, its last reply, and its moves, which are the steps' and within both
-    /// the bound and the places.
-    fn run(
-        &self,
-        source: &Source,
-        most: &Bounds,
-        begin: Begin,
-        codes: &[u8],
-        arguments: &[u32],
-        tally: &mut Tally,
-    ) -> (usize, Option<u64>, usize) {
+    /// A run of accepted lists, whose moves are the steps' and within both the bound and the places.
+    fn run(&self, source: &Source, most: &Bounds, begin: Begin, codes: &[u8], arguments: &[u32]) -> Ran {
         let Lists { numbers, ends, word } = &self.lists;
         let Begin { bookmark } = begin;
         let mut replies = vec![0; codes.len()];
@@ -172,9 +171,12 @@ impl Case {
             "{moves} moves over {all} places by {}",
             case()
         );
-        tally.edge(HOPPED, moves < all);
-        let members = replies.iter().filter(|reply| **reply < TOP).count();
-        (members, replies.last().copied(), moves)
+        Ran {
+            members: replies.iter().filter(|reply| **reply < TOP).count(),
+            last: replies.last().copied(),
+            moves,
+            hopped: moves < all,
+        }
     }
 
     /// Runs over the lists, if they have accepted numbers and the expression names none that was not delivered.
@@ -191,11 +193,11 @@ impl Case {
         let room = most.members + 1;
         for bookmark in [0, begin(random).bookmark.min(TOP)] {
             let begin = Begin { bookmark };
-            let (drawn, last, moves) = self.run(&source, most, begin, &vec![0; room], &vec![0; room], tally);
+            let all = self.run(&source, most, begin, &vec![0; room], &vec![0; room]);
             let left = source.set.iter().filter(|member| u64::from(**member) >= bookmark).count();
-            assert_eq!((drawn, last), (left, Some(FINISHED)), "from {bookmark}: {self:#?}");
-            tally.edge("as many moves", moves == most.moves);
-            tally.edge("fewer moves", moves < most.moves);
+            assert_eq!((all.members, all.last), (left, Some(FINISHED)), "from {bookmark}: {self:#?}");
+            tally.edge("as many moves", all.moves == most.moves);
+            tally.edge("fewer moves", all.moves < most.moves);
         }
 
         let (begin, codes, arguments) = if longest(&self.lists) as usize >= steps::HOP {
@@ -204,11 +206,12 @@ impl Case {
             let (codes, arguments) = calls(random, &self.lists.numbers);
             (Begin::default(), codes, arguments)
         };
-        let (drawn, ..) = self.run(&source, most, begin, &codes, &arguments, tally);
+        let Ran { members, hopped, .. } = self.run(&source, most, begin, &codes, &arguments);
         assert!(
-            drawn <= most.members,
-            "{drawn} members by {codes:?}, {arguments:?}: {self:#?}"
+            members <= most.members,
+            "{members} members by {codes:?}, {arguments:?}: {self:#?}"
         );
+        tally.edge(HOPPED, hopped);
     }
 
     /// The delivery of the lists, if they are accepted, with any word that they can have; read back into rows by the ends.
