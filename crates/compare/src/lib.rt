@@ -123,7 +123,7 @@ fn run_both(
         differs: 0,
         number: r.number,
         moves: r.moves,
-        places: rows::sum(places),
+        places: rows::total(places),
         last: last_of(r),
         replies,
     }

@@ -1,7 +1,6 @@
 // Rows compared and copied.
 use crate::MARK;
 use cases::first_numbers;
-ghost use Prim.Native.Nat.{_<_};
 
 pub fn wide(x: u32) -> u64 {
     x as u64
@@ -11,9 +10,7 @@ pub fn long(x: usize) -> u64 {
     x as u64
 }
 
-fn wide_place(x: u16) -> u64
-    ensures { λ r. ⌜ r < 65536 ⌝ }
-{
+fn wide_place(x: u16) -> u64 {
     x as u64
 }
 
@@ -131,13 +128,18 @@ fn are_within(places: [u16; 48], lengths: [u32; 48]) -> bool {
     true
 }
 
-// The sum of the places: the moves of readers that never hopped.
-pub fn sum(places: [u16; 48]) -> u64 {
+// The sum of the places from a node on.
+pub fn sum(places: &[u16], from: usize) -> u64 {
     let mut all: u64 = 0;
-    for i in 0..48 {
+    for i in from..places.len() {
         all = std::num::wrapping_add_u64(all, wide_place(places[i]));
     }
     all
+}
+
+// The sum of all places: the moves of readers that never hopped.
+pub fn total(places: [u16; 48]) -> u64 {
+    sum(&places, 0)
 }
 
 // The fewest moves that lead to a place: as many hops of 64 as it holds.
@@ -159,7 +161,7 @@ fn fewest_to(places: [u16; 48]) -> u64 {
 // less 63 for each hop, and no reader has hopped more often than its place holds 64. So they are never above that sum, never below a
 // 64th of it, and not 0 where a place is not.
 pub fn are_moves(places: [u16; 48], moves: u32) -> bool {
-    let singly = sum(places);
+    let singly = total(places);
     let made = wide(moves);
     let spared = std::num::wrapping_sub_u64(singly, made);
     fewest_to(places) <= made && made <= singly && spared % 63 == 0

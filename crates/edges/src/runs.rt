@@ -135,16 +135,7 @@ fn other_parts_zero(ran: RunResult) -> bool {
     if ran.bookmark != 0 {
         return false;
     }
-    sum(&places, 0) == 0
-}
-
-// The sum of the places from a node on.
-fn sum(places: &[u16], from: usize) -> u64 {
-    let mut total: u64 = 0;
-    for i in from..places.len() {
-        total = std::num::wrapping_add_u64(total, text::wide_16(places[i]));
-    }
-    total
+    rows::total(places) == 0
 }
 
 fn replied(codes: &[u8], arguments: &[u32], replies: &[u64; 64]) {
@@ -186,7 +177,7 @@ fn handed_back(ran: RunResult, nodes: usize) {
     text::with(b", moves ", text::wide_32(ran.moves));
     text::put(b", places");
     first_places(&places, nodes);
-    if sum(&places, nodes) != 0 {
+    if rows::sum(&places, nodes) != 0 {
         text::put(b", a place behind the nodes is not 0");
     }
     if !rows::are_moves(places, ran.moves) {

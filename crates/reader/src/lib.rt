@@ -195,14 +195,16 @@ pub fn read_member(numbers: &[u32], ends: &[u32], byte: u8, place: u16, to: u64)
     requires { ⌜ ((k : ℕ) → node-of byte ≡ accepted (Leaf k) → k < length (now ends)) × (to ≤ top) ⌝ }
     ensures { λ r. ⌜ Reads (now (numbers .entry)) (now (ends .entry)) byte place to r ⌝ }
 {
-    if 31 < byte {
-        return MemberRead::Operator;
+    match byte {
+        0..=31 => {
+            let r = read_list(numbers, ends, expression::wide(byte), place, to);
+            if r.moves == 0 {
+                return MemberRead::Still(r.answer);
+            }
+            MemberRead::Moved(r)
+        }
+        _ => MemberRead::Operator,
     }
-    let r = read_list(numbers, ends, expression::wide(byte), place, to);
-    if r.moves == 0 {
-        return MemberRead::Still(r.answer);
-    }
-    MemberRead::Moved(r)
 }
 
 // How many member nodes follow the node of a byte.

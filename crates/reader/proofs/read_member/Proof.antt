@@ -44,9 +44,6 @@ list-read : (q : tie.After-read-list) → let args = q .before .before .before .
 list-read q = let args = q .before .before .before .before .before .args in
     record { list = args .byte; named = a-list (args .byte) (omega arith); of = rw (q .before .wide .ensures) at (q .read-list .ensures) }
 
-returns : tie.Need-returns
-returns c = no-list (c .before .before .before .args .byte) (omega arith)
-
 wide-requires : tie.Need-wide-requires
 wide-requires c κs = search needs
 
@@ -55,14 +52,17 @@ read-list-requires c κs =
     let start = c .before .before .before .before in
     (start .pre .0, (omega (arith, c .wide .ensures, start .pre .1 .0 (start .args .byte) (a-list (start .args .byte) (omega arith))), start .pre .1 .1))
 
-returns-2 : tie.Need-returns-2
-returns-2 c =
+returns : tie.Need-returns
+returns c =
     let r = list-read (c .before .before) in
     record { list = r .list; named = r .named; of = stays _ _ _ _ (r .of) (c .if2 .taken) }
 
+returns-2 : tie.Need-returns-2
+returns-2 c = (lt-of-le-ne (omega arith) (λ z. c .if2 .left (sym z)), list-read (c .before .before))
+
 returns-3 : tie.Need-returns-3
-returns-3 c = (lt-of-le-ne (omega arith) (λ z. c .if2 .left (sym z)), list-read (c .before .before))
+returns-3 c = no-list (c .before .before .before .args .byte) (omega arith)
 
 pub read-member-spec : {M : Type 1} → statement M
 read-member-spec =
-    tie.close (tie.spec returns wide-requires read-list-requires returns-2 returns-3)
+    tie.close (tie.spec wide-requires read-list-requires returns returns-2 returns-3)

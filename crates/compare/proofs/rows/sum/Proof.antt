@@ -1,14 +1,15 @@
--- `sum` is safe and ends. The measure is how many nodes are left. Assumes nothing.
-use Prim.Native.Nat.{_-_, _≤_}
+-- `sum` is safe and ends: each index is within its row. The measure is what is left of the range. Assumes nothing.
+use Prim.Native.Nat.{_≤_, _-_}
+use lib.ListN.{length}
 use borrow.Author.Needs.{needs}
 use Rattle.compare.proofs.rows.sum.Statement.{statement}
 use Rattle.compare.proofs.rows.sum.Tie as tie
 
 abbrev Inv-loop : tie.InvT-loop
-Inv-loop places all₀ i₀ all i = i ≤ 48
+Inv-loop places from all₀ i₀ i-end all i = i-end ≤ length places
 
 abbrev μ-loop : tie.MeasureT-loop
-μ-loop places all₀ i₀ all i = 48 - i
+μ-loop places from all₀ i₀ i-end all i = i-end - i
 
 loop-holds : tie.Need-loop-holds Inv-loop μ-loop
 loop-holds c = search needs
@@ -16,8 +17,8 @@ loop-holds c = search needs
 mul-wide-place : tie.Need-mul-wide-place Inv-loop μ-loop
 mul-wide-place c = search needs
 
-array-read-wide-place : tie.Need-array-read-wide-place Inv-loop μ-loop
-array-read-wide-place c = search needs
+shared-slice-read-wide-place : tie.Need-shared-slice-read-wide-place Inv-loop μ-loop
+shared-slice-read-wide-place c = search needs
 
 wide-place-requires : tie.Need-wide-place-requires Inv-loop μ-loop
 wide-place-requires c κs = search needs
@@ -45,7 +46,7 @@ sum-spec =
     μ-loop
     loop-holds
     mul-wide-place
-    array-read-wide-place
+    shared-slice-read-wide-place
     wide-place-requires
     wrapping-add-u64-requires
     add-i
