@@ -68,6 +68,8 @@ static const struct {
     REFUSAL(ROW_NOT_CURRENT, "the kept row or its count is not that of the expression's members"),
     REFUSAL(LIST_NOT_DELIVERED, "the expression or the change names a list that was not delivered"),
     REFUSAL(DELIVERY_INCOMPLETE, "a list was not delivered, which the old form cannot say"),
+    REFUSAL(LIST_COUNTS_DIFFER, "the two deliveries to join have differing numbers of lists"),
+    REFUSAL(JOINED_LIST_TOO_LONG, "a joined list would have more than 65535 numbers"),
 };
 
 /* Says what is wrong with which part of the input. Always 1, for the exit status. */

@@ -76,6 +76,8 @@ extern "C" {
 #define ZWAILMOOR_ROW_NOT_CURRENT 17  /* The kept row or its count is not that of the expression's members. */
 #define ZWAILMOOR_LIST_NOT_DELIVERED 18   /* The expression or the change names a list that was not delivered. */
 #define ZWAILMOOR_DELIVERY_INCOMPLETE 19  /* A list was not delivered, which the old form cannot say. */
+#define ZWAILMOOR_LIST_COUNTS_DIFFER 20   /* The two deliveries to join have differing numbers of lists. */
+#define ZWAILMOOR_JOINED_LIST_TOO_LONG 21 /* A joined list would have more than 65,535 numbers. */
 
 /* The codes of a run's calls. Any other code is replied to as unknown, and changes nothing. */
 #define ZWAILMOOR_NEXT 0              /* The least member not below the floor; its argument is ignored. */
@@ -183,6 +185,20 @@ zwailmoor_write_result zwailmoor_upgrade_delivery(const uint8_t *old, size_t old
  */
 zwailmoor_write_result zwailmoor_downgrade_delivery(const uint8_t *delivery, size_t delivery_length, uint8_t *old,
                                                     size_t old_length);
+
+/*
+ * Joins a full delivery and a daily one, of equally many lists, into one delivery: `count` bytes. List k of the outcome is the union
+ * of both lists k, a number that is in both standing there once. A list that was delivered in one only is taken from that one; one
+ * that was delivered in neither is not delivered. Delivered and empty is delivered. The other way round gives the same bytes, and a
+ * delivery joined with itself gives its own: `full` and `daily` may be one row.
+ * 8,388,569 places are always enough, which is what zwailmoor_bounds says of 32 lists of 65,535. The outcome can be longer than both
+ * deliveries together: one number far away widens every gap of its list.
+ * Refusals: of the full one 1 wherever the bits run out, 7, for each list 8, 9, then 5; the same of the daily one; 20; 21, over all
+ * lists; 6.
+ * Its work is proportional to the two deliveries and what is written.
+ */
+zwailmoor_write_result zwailmoor_join_deliveries(const uint8_t *full, size_t full_length, const uint8_t *daily,
+                                                 size_t daily_length, uint8_t *joined, size_t joined_length);
 
 /*
  * Where a list stands in the row of numbers: `size` numbers from numbers[start] on. Both are 0 if refusal 7, 10 or 11 would

@@ -196,6 +196,39 @@ pub fn delivery_lists() -> (Vec<Vec<u32>>, Vec<Vec<u32>>) {
     (narrow, (0..32).map(|_| dice.wide(SIZE)).collect())
 }
 
+/// How many numbers of a daily list are not in the full one; as many of that one are not in it.
+const ADDED: usize = 4_000;
+
+/// Lists for a full delivery, and as many and as long ones for a daily one.
+pub struct Pair {
+    pub gaps: &'static str,
+    pub full: Vec<Vec<u32>>,
+    pub daily: Vec<Vec<u32>>,
+}
+
+/// 32 lists and 32 with narrow gaps, and as many with wide ones.
+pub fn joined_lists() -> [Pair; 2] {
+    let mut dice = Dice::new(SEED + 6);
+    let (narrow, wide) = delivery_lists();
+    [("narrow gaps", narrow, UNIVERSE as u64), ("wide gaps", wide, 1 << 32)].map(|(gaps, full, below)| {
+        let daily = full.iter().map(|list| daily_list(&mut dice, list, below)).collect();
+        Pair { gaps, full, daily }
+    })
+}
+
+/// Most numbers of a full list, and others below a bound.
+fn daily_list(dice: &mut Dice, full: &[u32], below: u64) -> Vec<u32> {
+    let kept = dice.subset(full.len() - ADDED, full.len());
+    let mut numbers: BTreeSet<u32> = kept.iter().map(|place| full[*place as usize]).collect();
+    while numbers.len() < full.len() {
+        let number = dice.below(below) as u32;
+        if full.binary_search(&number).is_err() {
+            numbers.insert(number);
+        }
+    }
+    numbers.into_iter().collect()
+}
+
 /// Lists of `size` numbers, as dense as those of the other cases, for how drawing grows.
 pub fn growth_case(lists: usize, size: usize, tree: &Tree) -> Case {
     let mut dice = Dice::new(SEED + size as u64);

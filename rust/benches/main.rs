@@ -8,6 +8,7 @@ mod deliveries;
 mod drawing;
 mod growth;
 mod inputs;
+mod joining;
 mod machine;
 mod paging;
 mod peers;
@@ -58,6 +59,10 @@ fn print_method() {
     );
     println!("  lists and members are taken as right, and only the one number is looked up");
     println!("- every list was delivered. Moves by hand: one walk makes the tests, then whole words of bits are copied");
+    println!(
+        "- joined: a daily delivery as long as the full one, of which 4,000 numbers a list are new and 4,000 of the full one's"
+    );
+    println!("  are missing. The outcome that is encoded beside it is prepared: merging the numbers is not counted there");
     println!("- before it is timed, every contender's whole result is compared with the others'");
 }
 
@@ -69,7 +74,8 @@ fn main() {
     let paged = paging::all();
     changing::run();
     let speeds = deliveries::all();
+    let joined = joining::all();
     growth::all();
-    verdict::print(&drawn, &checked.results, &speeds);
+    verdict::print(&drawn, &checked.results, &speeds, &joined);
     before::print(&drawn, &checked, &paged);
 }

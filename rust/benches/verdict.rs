@@ -2,6 +2,7 @@
 
 use crate::deliveries::Speed;
 use crate::drawing::Drawn;
+use crate::joining::Joined;
 use crate::table::Table;
 use crate::timing::{Ratio, Results};
 
@@ -13,6 +14,8 @@ const CHECKING_MARK: f64 = 1.80;
 const MEGABYTES: f64 = 100.0;
 /// MB of the bytes that a move reads a second, at least.
 const MOVED_MEGABYTES: f64 = 200.0;
+/// A join takes at most so many times as long as reading both deliveries and writing the outcome.
+const JOINING_MARK: f64 = 2.00;
 
 pub fn word(reached: bool) -> &'static str {
     if reached {
@@ -99,13 +102,23 @@ fn print_speeds(what: &str, speeds: &[Speed], mark: f64) {
     table.print(&format!("Verdict: {what} (at least {mark} MB/s)"));
 }
 
+fn print_joined(joined: &[Joined]) {
+    let mut table = Table::new(&["joined", "join / reading both and writing the outcome"]);
+    for one in joined {
+        table.row(vec![one.gaps.into(), judged(one.ratio, |r| r <= JOINING_MARK)]);
+    }
+    table.print(&format!(
+        "Verdict: full and daily delivery joined (at most {JOINING_MARK:.2})"
+    ));
+}
+
 const NOTE: &str = "
 In the verdicts the first figure is the ratio of best times, the one in brackets the median of the ratios within each
 round of samples. \"Reached\" asks that both keep the mark; anything else is \"missed\".
 \"Waited\" is the share of the time in which other programs had the processor: above a few in 100 the case should be
 timed again on a quieter machine.";
 
-pub fn print(drawn: &[Drawn], checks: &Results, [coded, moved]: &[Vec<Speed>; 2]) {
+pub fn print(drawn: &[Drawn], checks: &Results, [coded, moved]: &[Vec<Speed>; 2], joined: &[Joined]) {
     println!("{NOTE}");
     print_drawing(drawn);
     print_checks(checks);
@@ -115,4 +128,5 @@ pub fn print(drawn: &[Drawn], checks: &Results, [coded, moved]: &[Vec<Speed>; 2]
         moved,
         MOVED_MEGABYTES,
     );
+    print_joined(joined);
 }

@@ -167,6 +167,38 @@ pub fn downgrade_delivery(delivery: &[u8], old: &mut [u8]) -> Result<usize, Refu
     count(ffi::downgrade_delivery(delivery, old))
 }
 
+/// Joins a full delivery and a daily one, of equally many lists, into one delivery, and hands back how many bytes.
+///
+/// List k of the outcome is the union of both lists k, a number that is in both standing there once. A list that was delivered in one
+/// only is taken from that one; one that was delivered in neither is not delivered. Delivered and empty is delivered. The other way
+/// round gives the same bytes, and a delivery joined with itself gives its own.
+///
+/// 8,388,569 bytes are always enough, which is what [`bounds`] says of 32 lists of 65,535. The outcome can be longer than both
+/// deliveries together: one number far away widens every gap of its list. Its work is proportional to the deliveries and what is
+/// written.
+///
+/// ```
+/// use zwailmoor::{decode_delivery, encode_delivery, join_deliveries};
+///
+/// // Weekly 2 3 5 and a list that was not delivered; daily 3 4, and 9.
+/// let (mut full, mut daily, mut joined) = ([0; 99], [0; 99], [0; 99]);
+/// let full_length = encode_delivery(&[2, 3, 5], &[3, 3], 1 << 31, &mut full)?;
+/// let daily_length = encode_delivery(&[3, 4, 9], &[2, 3], 3 << 30, &mut daily)?;
+///
+/// let length = join_deliveries(&full[..full_length], &daily[..daily_length], &mut joined)?;
+/// let (mut numbers, mut ends) = ([0; 5], [0; 2]);
+/// let read = decode_delivery(&joined[..length], &mut numbers, &mut ends)?;
+/// assert_eq!((numbers, ends, read.word), ([2, 3, 4, 5, 9], [4, 5], 3 << 30));
+/// # Ok::<(), zwailmoor::Refusal>(())
+/// ```
+///
+/// # Errors
+/// Of the full one 1 wherever the bits run out, 7, for each list 8, 9, then 5; the same of the daily one; 20; 21, over all lists; 6.
+/// The joined bytes are then as they were.
+pub fn join_deliveries(full: &[u8], daily: &[u8], joined: &mut [u8]) -> Result<usize, Refusal> {
+    count(ffi::join_deliveries(full, daily, joined))
+}
+
 /// The numbers of one list: the part of the lent numbers itself.
 ///
 /// It is the empty part at the start if refusal 7, 10 or 11 would apply to the lists, or if there is no such list. A list that was

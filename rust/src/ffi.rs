@@ -1,4 +1,4 @@
-//! The engine's ten C calls, and the only `unsafe` of this package.
+//! The engine's eleven C calls, and the only `unsafe` of this package.
 //!
 //! Each function here lends slices for one call. What the engine asks of its caller (`include/zwailmoor.h`) a slice is by its
 //! type: its pointer is aligned and never null, also where it is empty; it has as many elements as it says; and a `&mut` slice
@@ -88,6 +88,14 @@ extern "C" {
     ) -> WriteResult;
     fn zwailmoor_upgrade_delivery(old: *const u8, old_length: usize, delivery: *mut u8, delivery_length: usize) -> WriteResult;
     fn zwailmoor_downgrade_delivery(delivery: *const u8, delivery_length: usize, old: *mut u8, old_length: usize) -> WriteResult;
+    fn zwailmoor_join_deliveries(
+        full: *const u8,
+        full_length: usize,
+        daily: *const u8,
+        daily_length: usize,
+        joined: *mut u8,
+        joined_length: usize,
+    ) -> WriteResult;
     fn zwailmoor_list_span(
         numbers: *const u32,
         numbers_length: usize,
@@ -177,6 +185,20 @@ pub fn upgrade_delivery(old: &[u8], delivery: &mut [u8]) -> WriteResult {
 pub fn downgrade_delivery(delivery: &[u8], old: &mut [u8]) -> WriteResult {
     // SAFETY: both pairs are slices, and `old`, the one written, is `&mut`.
     unsafe { zwailmoor_downgrade_delivery(delivery.as_ptr(), delivery.len(), old.as_mut_ptr(), old.len()) }
+}
+
+pub fn join_deliveries(full: &[u8], daily: &[u8], joined: &mut [u8]) -> WriteResult {
+    // SAFETY: all pairs are slices, and `joined`, the one written, is `&mut`; those that are only read may overlap.
+    unsafe {
+        zwailmoor_join_deliveries(
+            full.as_ptr(),
+            full.len(),
+            daily.as_ptr(),
+            daily.len(),
+            joined.as_mut_ptr(),
+            joined.len(),
+        )
+    }
 }
 
 pub fn list_span(numbers: &[u32], ends: &[u32], word: u32, list: usize) -> Span {

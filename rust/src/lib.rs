@@ -4,7 +4,8 @@
 //! were delivered ([`ALL_DELIVERED`]). An expression combines them by union, intersection and difference; one that names a list
 //! which was not delivered is refused. A [`run`] draws members of the result in order, or checks them, and hands back a
 //! bookmark from which a later run goes on; [`members`] is all of them as an iterator. [`bounds`] says from the lists' lengths alone
-//! how much room a run can take. [`update`] changes a list by one number, and keeps a row of members current.
+//! how much room a run can take. [`update`] changes a list by one number, and keeps a row of members current. [`join_deliveries`]
+//! makes a full delivery and a daily one into one.
 //!
 //! No call allocates (only [`members`] does), keeps a slice or has state. Every call takes any values; what is wrong comes back as
 //! a [`Refusal`], and all lent rows, and a lent count, are then as they were. On success, elements behind those written hold what they held.
@@ -51,8 +52,8 @@ mod refusal;
 
 pub use call::{Call, Reply};
 pub use calls::{
-    bounds, decode_delivery, downgrade_delivery, encode_delivery, list_part, pack_expression, run, unpack_expression, update,
-    upgrade_delivery, Bounds, Change, DecodeResult, RunResult, ALL_DELIVERED,
+    bounds, decode_delivery, downgrade_delivery, encode_delivery, join_deliveries, list_part, pack_expression, run,
+    unpack_expression, update, upgrade_delivery, Bounds, Change, DecodeResult, RunResult, ALL_DELIVERED,
 };
 pub use members::{members, Members};
 pub use refusal::Refusal;

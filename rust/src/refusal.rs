@@ -61,6 +61,10 @@ pub enum Refusal {
     ListNotDelivered = 18,
     /// A list was not delivered, which the old form of a delivery cannot say.
     DeliveryIncomplete = 19,
+    /// The two deliveries to join have differing numbers of lists.
+    ListCountsDiffer = 20,
+    /// A joined list would have more than 65,535 numbers.
+    JoinedListTooLong = 21,
 }
 
 use Refusal::*;
@@ -99,6 +103,8 @@ impl Refusal {
         RowNotCurrent,
         ListNotDelivered,
         DeliveryIncomplete,
+        ListCountsDiffer,
+        JoinedListTooLong,
     ];
 
     /// The refusal's number, as it is in C.
@@ -143,6 +149,8 @@ impl fmt::Display for Refusal {
             RowNotCurrent => "the kept row or its count is not that of the expression's members",
             ListNotDelivered => "the expression or the change names a list that was not delivered",
             DeliveryIncomplete => "a list was not delivered, which the old form of a delivery cannot say",
+            ListCountsDiffer => "the two deliveries to join have differing numbers of lists",
+            JoinedListTooLong => "a joined list would have more than 65,535 numbers",
         })
     }
 }

@@ -160,7 +160,7 @@ fn functions(text: &str) -> BTreeSet<&str> {
 fn round_trip() {
     let header = header();
     let prototypes = functions(&header);
-    assert_eq!(prototypes.len(), 10);
+    assert_eq!(prototypes.len(), 11);
     assert_eq!(functions(&text("rust/src/ffi.rs")), prototypes);
     assert_eq!(functions(&text("rust/tests/round_trip.c")), prototypes);
     let program = build("round_trip", "rust/tests/round_trip.c");

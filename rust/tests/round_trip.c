@@ -73,6 +73,52 @@ static int moves(void)
     return 0;
 }
 
+static int joins(void)
+{
+    static const uint8_t full[8] = {0x0A, 0x00, 0x06, 0x00, 0x00, 0x00, 0x04, 0x04}; /* 2 3 5, and one that did not come */
+    static const uint8_t daily[13] = {0x0A, 0x00, 0x02, 0x00, 0x00, 0x00, 0x09, 0x00, 0x01, 0x00, 0x00, 0x00, 0x09}; /* 4, and 9 */
+    static const uint8_t both[14] = {0x0A, 0x00, 0x08, 0x00, 0x00, 0x00, 0x04, 0x01, 0x00, 0x01, 0x00, 0x00, 0x00, 0x09};
+    static const uint8_t one[1] = {0x04};  /* one that did not come */
+    static const uint8_t none[1] = {0x00}; /* no lists */
+    uint8_t bytes[15];
+    memset(bytes, 77, sizeof bytes);
+    zwailmoor_write_result out = zwailmoor_join_deliveries(full, 8, daily, 13, bytes, 15);
+    REQUIRE(46, out.number == ZWAILMOOR_ACCEPTED && out.count == 14 && memcmp(bytes, both, 14) == 0 && bytes[14] == 77)
+    /* Both are bad, and the full one's number comes. */
+    out = zwailmoor_join_deliveries(full, 7, none, 1, bytes, 15);
+    REQUIRE(47, out.number == ZWAILMOOR_ENDS_EARLY && out.count == 0)
+    out = zwailmoor_join_deliveries(none, 1, full, 7, bytes, 15);
+    REQUIRE(48, out.number == ZWAILMOOR_NUMBER_OF_LISTS && out.count == 0)
+    out = zwailmoor_join_deliveries(full, 8, one, 1, bytes, 0);
+    REQUIRE(49, out.number == ZWAILMOOR_LIST_COUNTS_DIFFER && out.count == 0)
+    out = zwailmoor_join_deliveries(full, 8, full, 8, bytes, 7);
+    REQUIRE(50, out.number == ZWAILMOOR_ROW_TOO_SHORT && out.count == 0 && memcmp(bytes, both, 14) == 0 && bytes[14] == 77)
+    out = zwailmoor_join_deliveries(full, 8, full, 8, bytes, 8);
+    REQUIRE(51, out.number == ZWAILMOOR_ACCEPTED && out.count == 8 && memcmp(bytes, full, 8) == 0 && bytes[8] == both[8])
+    return 0;
+}
+
+/* 0 to 65,534, and 65,535 alone: the union has one number too many. */
+static int long_joins(void)
+{
+    static uint32_t numbers[65536];
+    static const uint32_t ends[2] = {65535, 1};
+    static uint8_t full[8200];
+    const uint32_t all = ZWAILMOOR_ALL_DELIVERED;
+    uint8_t daily[7];
+    uint8_t lent = 77;
+    for (uint32_t i = 0; i < 65536; i++) {
+        numbers[i] = i;
+    }
+    zwailmoor_write_result out = zwailmoor_encode_delivery(numbers, 65535, &ends[0], 1, all, full, sizeof full);
+    REQUIRE(52, out.number == ZWAILMOOR_ACCEPTED && out.count == sizeof full)
+    out = zwailmoor_encode_delivery(&numbers[65535], 1, &ends[1], 1, all, daily, sizeof daily);
+    REQUIRE(53, out.number == ZWAILMOOR_ACCEPTED && out.count == sizeof daily)
+    out = zwailmoor_join_deliveries(full, sizeof full, daily, sizeof daily, &lent, 0);
+    REQUIRE(54, out.number == ZWAILMOOR_JOINED_LIST_TOO_LONG && out.count == 0)
+    return 0;
+}
+
 static int runs(void)
 {
     static const uint32_t numbers[3] = {2, 3, 5};
@@ -193,6 +239,8 @@ int main(void)
     wrong = wrong == 0 ? operators() : wrong;
     wrong = wrong == 0 ? deliveries() : wrong;
     wrong = wrong == 0 ? moves() : wrong;
+    wrong = wrong == 0 ? joins() : wrong;
+    wrong = wrong == 0 ? long_joins() : wrong;
     wrong = wrong == 0 ? runs() : wrong;
     wrong = wrong == 0 ? hops() : wrong;
     wrong = wrong == 0 ? bounds() : wrong;

@@ -28,6 +28,14 @@ const BLOCK: u64 = 108;
 
 const LONG: u64 = 109;
 
+const DAILY: u64 = 110;
+
+// The lists of a daily delivery are numbered from here on, so that each has a choice and a density of its own.
+const DAILY_LISTS: u64 = 32;
+
+// The index of a daily delivery's word among the cases.
+const DAILY_WORDS: u64 = 1099511627776;
+
 // How many lists: 1 in 8 of 100 cases, 2 to 6 in 76, 7 to 12 in 10, 13 to 31 in 3, 32 in 3.
 fn count(case: u64) -> u64
     ensures { λ r. ⌜ (1 ≤ r) × (r ≤ 32) ⌝ }
@@ -47,6 +55,21 @@ fn count(case: u64) -> u64
         return 13 + r % 19;
     }
     32
+}
+
+// How many lists a daily delivery has: as many as the case's own in 94 of 100 cases, one more in 2, and else any number.
+fn daily_count(case: u64) -> u64
+    ensures { λ r. ⌜ (1 ≤ r) × (r ≤ 32) ⌝ }
+{
+    let p = pick(case, DAILY, 0, 100);
+    let n = count(case);
+    if p < 94 {
+        return n;
+    }
+    if p < 96 {
+        return n % 32 + 1;
+    }
+    1 + roll(case, DAILY, 1) % 32
 }
 
 // How the lists of a case go together. Of 100 cases:
@@ -106,6 +129,16 @@ pub fn candidates(case: u64) -> u64
         return 40;
     }
     8
+}
+
+// How many candidates a list is offered: of a daily delivery's none in 25 of 100.
+fn offered(case: u64, list: u64) -> u64
+    ensures { λ r. ⌜ r ≤ 200 ⌝ }
+{
+    if DAILY_LISTS <= list && pick(case, DAILY, list, 100) < 25 {
+        return 0;
+    }
+    candidates(case)
 }
 
 // A candidate of a universe of n. Of 100 cases: 45 from 0 on, 17 up to 4294967295, 10 with a half at
@@ -214,7 +247,7 @@ fn ended(l: Lists, place: usize) -> Lists
 fn with_list(l: Lists, case: u64, list: u64) -> Lists
     ensures { λ r. ⌜ (r .used ≤ 512) × (1 ≤ r .count) × (r .count ≤ 32) ⌝ }
 {
-    let n = candidates(case);
+    let n = offered(case, list);
     let mut m = l;
     let mut place = l.used % 512;
     let mut slot: u64 = 0;
@@ -247,17 +280,33 @@ fn with_word(l: Lists, case: u64) -> Lists
     m
 }
 
+// So many lists, numbered from a number on, at least one.
+fn lists_from(case: u64, first: u64, n: u64) -> Lists
+    ensures { λ r. ⌜ (r .used ≤ 512) × (1 ≤ r .count) × (r .count ≤ 32) ⌝ }
+{
+    let mut l = with_list(no_lists(), case, first);
+    let mut k: u64 = 1;
+    while k < n {
+        l = with_list(l, case, std::num::wrapping_add_u64(first, k));
+        k += 1;
+    }
+    l
+}
+
 // Accepted lists: the ends ascend, each list ascends strictly, the last end is the numbers used, and every list that has a number was
 // delivered.
 pub fn lists(case: u64) -> Lists
     ensures { λ r. ⌜ (r .used ≤ 512) × (1 ≤ r .count) × (r .count ≤ 32) ⌝ }
 {
-    let n = count(case);
-    let mut l = with_list(no_lists(), case, 0);
-    let mut k: u64 = 1;
-    while k < n {
-        l = with_list(l, case, k);
-        k += 1;
-    }
-    with_word(l, case)
+    with_word(lists_from(case, 0, count(case)), case)
+}
+
+// Accepted lists of a daily delivery beside these, of the same candidates.
+pub fn daily_lists(case: u64) -> Lists
+    ensures { λ r. ⌜ (r .used ≤ 512) × (1 ≤ r .count) × (r .count ≤ 32) ⌝ }
+{
+    with_word(
+        lists_from(case, DAILY_LISTS, daily_count(case)),
+        std::num::wrapping_add_u64(case, DAILY_WORDS),
+    )
 }

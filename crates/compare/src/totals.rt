@@ -1,10 +1,11 @@
 // What generated cases came to, in sums.
 use crate::Verdict;
+use crate::rows::long;
 use crate::rows::wide;
 ghost use Prim.Native.Nat.{_<_};
 
 // What the cases of one kind came to: the calls' replies by kind, the runs' moves and places, the members that came or went by a
-// change, the runs or changes by their number.
+// change, the bytes that joins wrote, the runs, changes or joins by their number.
 pub struct Totals {
     pub differ: u64,
     pub members: u64,
@@ -16,7 +17,8 @@ pub struct Totals {
     pub places: u64,
     pub came: u64,
     pub went: u64,
-    pub numbers: [u64; 20],
+    pub bytes: u64,
+    pub numbers: [u64; 22],
 }
 
 pub fn none() -> Totals {
@@ -31,7 +33,8 @@ pub fn none() -> Totals {
         places: 0,
         came: 0,
         went: 0,
-        numbers: [0; 20],
+        bytes: 0,
+        numbers: [0; 22],
     }
 }
 
@@ -67,9 +70,9 @@ fn with_replies(t: Totals, replies: [u64; 32]) -> Totals {
 }
 
 fn index(number: u32) -> usize
-    ensures { λ r. ⌜ r < 20 ⌝ }
+    ensures { λ r. ⌜ r < 22 ⌝ }
 {
-    (number % 20) as usize
+    (number % 22) as usize
 }
 
 fn one_if(x: bool) -> u64 {
@@ -98,5 +101,12 @@ pub fn with_change(t: Totals, number: u32, differs: bool, came: bool, went: bool
     let mut sum = t;
     sum.came = more(t.came, one_if(came));
     sum.went = more(t.went, one_if(went));
+    with_number(sum, number, differs)
+}
+
+// One join more, and how many bytes it wrote.
+pub fn with_join(t: Totals, number: u32, differs: bool, bytes: usize) -> Totals {
+    let mut sum = t;
+    sum.bytes = more(t.bytes, long(bytes));
     with_number(sum, number, differs)
 }

@@ -12,6 +12,7 @@ use changed::Outcome;
 use compare::Verdict;
 use compare::totals;
 use compare::totals::Totals;
+use joined::Stored;
 
 // What came out differently, by the number that `compare` gives it.
 fn what(differs: u32) {
@@ -30,6 +31,9 @@ fn what(differs: u32) {
         13 => text::put(b"the count"),
         14 => text::put(b"the members drawn afresh"),
         15 => text::put(b"the change taken back"),
+        16 => text::put(b"the bytes"),
+        17 => text::put(b"the join the other way round"),
+        18 => text::put(b"the join with itself"),
         _ => text::put(b"the program's list"),
     }
 }
@@ -155,6 +159,38 @@ fn sum_updates(count: u64) -> Totals {
     t
 }
 
+fn show_delivery(name: &[u8], d: Stored) {
+    let bytes = d.bytes;
+    text::put(name);
+    text::bytes(first_bytes(&bytes, d.count));
+}
+
+fn join(case: u64) -> joined::Outcome {
+    let o = joined::join_case(case);
+    if o.differs != 0 {
+        text::with(b"case ", case);
+        text::put(b" differs in ");
+        what(o.differs);
+        let pair = joined::pair_of(case);
+        show_delivery(b": full", pair.full);
+        show_delivery(b", daily", pair.daily);
+        text::end();
+    }
+    o
+}
+
+// The joins of the cases 0 to `count`, that one excluded.
+fn sum_joins(count: u64) -> Totals {
+    let mut t = totals::none();
+    let mut case: u64 = 0;
+    while case < count {
+        let o = join(case);
+        t = totals::with_join(t, o.number, o.differs != 0, o.count);
+        case += 1;
+    }
+    t
+}
+
 fn item(n: u64, name: &[u8]) {
     text::put(b", ");
     text::number(n);
@@ -170,9 +206,9 @@ fn head(name: &[u8], count: u64, differ: u64) {
 }
 
 // How many runs each number came to.
-fn print_numbers(numbers: [u64; 20]) {
+fn print_numbers(numbers: [u64; 22]) {
     let mut n: usize = 0;
-    while n < 20 {
+    while n < 22 {
         if numbers[n] != 0 {
             by_number(n, numbers[n]);
         }
@@ -213,8 +249,18 @@ fn print_updates(count: u64) {
     text::end();
 }
 
+fn print_joins(count: u64) {
+    let t = sum_joins(count);
+    head(b"joins, ", count, t.differ);
+    item(t.bytes, b" bytes");
+    let numbers = t.numbers;
+    print_numbers(numbers);
+    text::end();
+}
+
 pub fn all() {
     print(b"generated, ", 100000, false);
     print(b"damaged, ", 50000, true);
     print_updates(50000);
+    print_joins(50000);
 }

@@ -1,6 +1,8 @@
 // A case of the script by its kind: its fields are read, and the call is made. Each function answers what the line came to.
 use crate::given;
 use crate::given::Row8;
+use crate::joins;
+use crate::joins::Given;
 use crate::laid;
 use crate::limits;
 use crate::long;
@@ -48,6 +50,9 @@ fn fields(kind: &[u8]) -> Bounds {
     if check::same(kind, b"bounds") {
         return from(4, 4);
     }
+    if check::same(kind, b"join") {
+        return from(4, 7);
+    }
     fields_of_bytes(kind)
 }
 
@@ -86,6 +91,9 @@ pub fn case(line: &[u8]) -> Line {
     }
     if check::same(kind, b"bounds") {
         return of_ends(line);
+    }
+    if check::same(kind, b"join") {
+        return joined(line);
     }
     of_bytes(line, kind)
 }
@@ -324,6 +332,35 @@ fn moved(line: &[u8], kind: &[u8]) -> Line {
         size(room),
     );
     Line::Run
+}
+
+// A delivery with so many zero bytes behind it.
+fn with_zeros(r: Row8, zeros: Numeral) -> Given {
+    let row = r.row;
+    Given {
+        row,
+        count: r.count,
+        zeros: size(zeros),
+    }
+}
+
+// name | join | full delivery | daily delivery [| room [| zero bytes behind the full one [| and behind the daily one]]]
+fn joined(line: &[u8]) -> Line {
+    let full = given::bytes(line, 2);
+    let daily = given::bytes(line, 3);
+    let room = room(line, 4, 16384);
+    let full_zeros = words::one_or(line, 5, 65536, 0);
+    let daily_zeros = words::one_or(line, 6, 65536, 0);
+    let zeros = full_zeros.good && daily_zeros.good;
+    if !full.good || !daily.good || !room.good || !zeros {
+        return Line::Unread;
+    }
+    joins::join(
+        words::field(line, 0),
+        with_zeros(full, full_zeros),
+        with_zeros(daily, daily_zeros),
+        size(room),
+    )
 }
 
 // name | kind | bytes | a number [| room]

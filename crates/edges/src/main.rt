@@ -3,6 +3,7 @@
 // sums.
 mod generated;
 mod given;
+mod joins;
 mod kinds;
 mod laid;
 mod limits;

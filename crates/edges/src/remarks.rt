@@ -31,6 +31,7 @@ fn says(what: u32, at: usize, n: u64) {
         changed::ENDS => element(b"end ", at, n),
         changed::KEPT => element(b"kept number ", at, n),
         changed::COUNT => text::with(b"count ", n),
+        joined::BYTES => element(b"byte ", at, n),
         _ => reply(at, n),
     }
 }

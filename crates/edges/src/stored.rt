@@ -60,7 +60,7 @@ fn with_lists(lists: Lists, room: usize) {
     into(room);
 }
 
-fn into(room: usize) {
+pub fn into(room: usize) {
     text::with(b", into ", text::wide(room));
     text::put(b": ");
 }

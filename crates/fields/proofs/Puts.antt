@@ -67,6 +67,11 @@ put-append s p xs ys h =
     ∙ ap bytes (lay-append (bits s) p xs ys (rw bits-length (omega arith)))
     ∙ sym (put-is s p (xs ++ ys))
 
+-- two pieces that are put one behind the other
+pub put-two : (s : List ℕ) (at a : ℕ) (xs ys : List Bool) {r t : List ℕ} → length xs ≡ a → at + a ≤ 8 * length s → r ≡ put-bits s at xs → t ≡ put-bits r (at + a) ys → t ≡ put-bits s at (xs ++ ys)
+put-two s at a xs ys l h er et =
+    et ∙ ap₂ (λ (row : List ℕ) (p : ℕ). put-bits row p ys) er (ap (λ (k : ℕ). at + k) (sym l)) ∙ put-append s at xs ys (rw l h)
+
 -- ---- a byte is a store
 
 pub set-small : (s : List ℕ) (j b : ℕ) → Bytes s → b < 256 → Bytes (set s j b)

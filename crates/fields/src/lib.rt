@@ -73,15 +73,35 @@ fn bytes_at(s: &[u8], first: usize, n: usize) -> u64
     x
 }
 
+// The field of w bits at the bit position at, off n bytes that hold it.
+fn field_in(s: &[u8], at: usize, w: usize, n: usize) -> u32
+    requires { ⌜ (w ≤ 32) × (n ≤ 5) × (at % 8 + w ≤ 8 * n) × (at / 8 + n ≤ length (now s)) ⌝ }
+    ensures { λ r. ⌜ r ≡ value (take w (drop at (bits (now (s .entry))))) ⌝ }
+{
+    let off = bit_of(at);
+    let x = bytes_at(s, byte_of(at), n);
+    narrow(low_bits(high_bits(x, 8 * n - off - w), w))
+}
+
 // The field of w bits at the bit position at, whose bits are all there.
 pub fn field_at(s: &[u8], at: usize, w: usize) -> u32
     requires { ⌜ (w ≤ 32) × (at + w ≤ 8 * length (now s)) ⌝ }
     ensures { λ r. ⌜ r ≡ value (take w (drop at (bits (now (s .entry))))) ⌝ }
 {
-    let off = bit_of(at);
-    let n = byte_of(off + w + 7);
-    let x = bytes_at(s, byte_of(at), n);
-    narrow(low_bits(high_bits(x, 8 * n - off - w), w))
+    let n = byte_of(bit_of(at) + w + 7);
+    field_in(s, at, w, n)
+}
+
+// The same, for fields that are taken one behind the other: off five bytes where so many are there, so that their number does not
+// change from field to field, which a processor guesses badly.
+pub fn next_field(s: &[u8], at: usize, w: usize) -> u32
+    requires { ⌜ (w ≤ 32) × (at + w ≤ 8 * length (now s)) ⌝ }
+    ensures { λ r. ⌜ r ≡ value (take w (drop at (bits (now (s .entry))))) ⌝ }
+{
+    if byte_of(at) + 5 <= s.len() {
+        return field_in(s, at, w, 5);
+    }
+    field_at(s, at, w)
 }
 
 // A number of at most 32 bits in so many.

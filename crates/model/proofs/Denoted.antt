@@ -179,7 +179,7 @@ members-are ls t x = select-among (member ls t) x (all-numbers ls) ∙ go (membe
     go false h = refl
 
 -- they are no more than all numbers
-insert-few : (x : ℕ) (ys : List ℕ) → length (insert x ys) ≤ suc (length ys)
+pub insert-few : (x : ℕ) (ys : List ℕ) → length (insert x ys) ≤ suc (length ys)
 unfolding insert
 insert-few x [] = omega arith
 insert-few x (y ∷ ys) = go (ltb x y) (eqb x y) (insert-few x ys)

@@ -25,3 +25,5 @@ pub mod Sources
 pub mod Replies
 pub mod Told
 pub mod RoundTrips
+pub mod Unions
+pub mod Longest

@@ -4,7 +4,7 @@ use mathlib.Core.Path.{_≡_, refl, ap, ap₂, _∙_, subst}
 use mathlib.Core.List.{List, [], _∷_, map}
 use Prim.Native.Nat.{ℕ, suc, _≤_}
 use native.Mathlib.Omega.{arith}
-use lib.Dec.{leb}
+use lib.Dec.{leb, eqb}
 use borrow.Author.Tests.{leb-true}
 use lib.ListN.{length, drop, length-append, length-drop, length-map, length-replicate}
 use Rattle.model.specs.Outcome.{Outcome, refused, accepted, Sent, Success, over, sent}
@@ -16,6 +16,7 @@ use Rattle.model.specs.Forms.{nodes, nodes-all, row-byte, row, packed, t
 use Rattle.model.specs.Delivery.{by-count, came, supplied-numbers, all-delivered, by-bit, read-stored, delivery, read-delivery, old-delivery, supplied}
 use Rattle.model.specs.Calls.{unpack-expression, pack-expression, decode-delivery, stored, encode-delivery, upgrade-delivery, downgrade-delivery, run-parts, run-size, run-call}
 use Rattle.model.specs.Program.{listing, listed, list-members}
+use Rattle.model.specs.Joined.{join-lists, lengths-hold, join-deliveries}
 use Rattle.model.proofs.Accepted.{accepted-same, bound, required, packed-reads}
 use Rattle.model.proofs.Places.{counted-run}
 use Rattle.model.proofs.Deliveries.{delivery-holds}
@@ -126,6 +127,15 @@ downgrade-shape bytes lent = sent-shape 1 (lent ∷ []) _ (λ s e.
     let a = bound (read-stored by-bit bytes) _ s e in
     let b = required 19 (all-delivered (a .got)) _ s (a .rest) in
     stored-fits (old-delivery (map supplied-numbers (a .got))) lent s (b .1))
+
+pub join-shape : (full daily lent : List ℕ) → Shape 1 (lent ∷ []) (join-deliveries full daily lent)
+unfolding join-deliveries
+join-shape full daily lent = sent-shape 1 (lent ∷ []) _ (λ s e.
+    let a = bound (read-stored by-bit full) _ s e in
+    let b = bound (read-stored by-bit daily) _ s (a .rest) in
+    let c = required 20 (eqb (length (a .got)) (length (b .got))) _ s (b .rest) in
+    let d = required 21 (lengths-hold (join-lists (a .got) (b .got))) _ s (c .1) in
+    stored-fits (delivery (join-lists (a .got) (b .got))) lent s (d .1))
 
 -- the parts of a run's result are as many, whatever they are
 parts-long : (moves : ℕ) (places : List ℕ) (last : Start) → length places ≡ 48 → length (run-parts moves places last) ≡ run-size

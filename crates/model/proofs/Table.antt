@@ -27,9 +27,11 @@ use Rattle.model.specs.Program.{halves, listing-of, listing, listed, lis
 use Rattle.model.specs.Update
 use Rattle.model.specs.Update.{Change, change, update, updated}
 use Rattle.model.specs.RequestTwo.{every-bit}
-use Rattle.model.specs.Demands.{lengths, sum}
+use Rattle.model.specs.Demands.{lengths, sum, wrote}
 use Rattle.model.specs.Bounds
 use Rattle.model.specs.Bounds.{bounds}
+use Rattle.model.specs.Joined
+use Rattle.model.specs.Joined.{join-lists, lengths-hold, join-deliveries}
 
 -- opens the definitions: under `unfolding computes` each side of a table computes
 opens-lists : Unit {0}
@@ -64,8 +66,12 @@ opens-bounds : Unit {0}
 unfolding bounds Bounds.bounds-of Bounds.lengths-from Bounds.ends-rise Bounds.most-members Bounds.most-moves Bounds.most-bits Bounds.most-bytes Delivery.list-size lengths sum
 opens-bounds = tt
 
+opens-joined : Unit {0}
+unfolding join-deliveries join-lists Joined.join-list Joined.list-union lengths-hold
+opens-joined = tt
+
 computes : Unit {0}
-unfolding opens-lists opens-machine opens-steps opens-forms opens-delivery opens-calls opens-update opens-bounds
+unfolding opens-lists opens-machine opens-steps opens-forms opens-delivery opens-calls opens-update opens-bounds opens-joined
 computes = tt
 
 -- P9's list 2 3 5 in Two's form, a bit of 1 ahead of its count; and the program's stored example, the expression list 0
@@ -1203,3 +1209,66 @@ pub bounds-refused :
     ≡ map (λ n. refuses n 3 []) (7 ∷ 7 ∷ 7 ∷ 10 ∷ 10 ∷ 10 ∷ 1 ∷ 2 ∷ 3 ∷ 4 ∷ 5 ∷ [])
 unfolding computes
 bounds-refused = refl
+
+-- ---- request Six
+
+-- 2 5, and 9, two undelivered lists, an empty one and an undelivered one; 3 5, an undelivered list, 4, two undelivered ones and an
+-- empty one; so joined 2 3 5, and 9, and 4, an undelivered list and two empty ones
+abbrev weekly : List ℕ
+weekly = 0x1A ∷ 0x00 ∷ 0x04 ∷ 0x00 ∷ 0x00 ∷ 0x00 ∷ 0x04 ∷ 0x1A ∷ 0x00 ∷ 0x02 ∷ 0x00 ∷ 0x00 ∷ 0x00 ∷ 0x12 ∷ 0x40 ∷ 0x00 ∷ 0x00 ∷ []
+
+abbrev daily : List ℕ
+daily = 0x1A ∷ 0x00 ∷ 0x04 ∷ 0x00 ∷ 0x00 ∷ 0x00 ∷ 0x06 ∷ 0x0A ∷ 0x00 ∷ 0x02 ∷ 0x00 ∷ 0x00 ∷ 0x00 ∷ 0x08 ∷ 0x40 ∷ 0x00 ∷ 0x00 ∷ []
+
+abbrev joined : List ℕ
+joined =
+    0x1A ∷ 0x00 ∷ 0x06 ∷ 0x00 ∷ 0x00 ∷ 0x00 ∷ 0x04 ∷ 0x06 ∷ 0x00 ∷ 0x02 ∷ 0x00 ∷ 0x00 ∷ 0x00 ∷ 0x13 ∷ 0x00 ∷ 0x01 ∷ 0x00 ∷ 0x00 ∷ 0x00 ∷ 0x04 ∷ 0x40 ∷ 0x00 ∷ 0x20 ∷ 0x00 ∷
+    0x00 ∷ []
+
+-- either way round, with two elements behind the written ones, and with none; one byte short. 100 101, of width 1, and 1 ahead of
+-- it: joined they have width 7. One undelivered list joined to one; 2 3 5 joined to itself
+pub joins :
+    join-deliveries weekly daily (replicate 27 7) ∷
+    join-deliveries daily weekly (replicate 25 7) ∷
+    join-deliveries weekly daily (replicate 24 7) ∷
+    join-deliveries (0x06 ∷ 0x00 ∷ 0x04 ∷ 0x00 ∷ 0x00 ∷ 0x00 ∷ 0xC8 ∷ 0x00 ∷ []) (0x06 ∷ 0x00 ∷ 0x02 ∷ 0x00 ∷ 0x00 ∷ 0x00 ∷ 0x02 ∷ []) (replicate 10 7) ∷
+    join-deliveries (0x04 ∷ []) (0x04 ∷ []) sevens ∷
+    join-deliveries new-235 new-235 (replicate 8 7) ∷ []
+    ≡
+    gives (25 ∷ []) ((joined ++ sevens) ∷ []) ∷
+    gives (25 ∷ []) (joined ∷ []) ∷
+    refuses 6 1 (replicate 24 7 ∷ []) ∷
+    gives (10 ∷ []) ((0x06 ∷ 0x00 ∷ 0x06 ∷ 0x00 ∷ 0x00 ∷ 0x00 ∷ 0x02 ∷ 0x6C ∷ 0x40 ∷ 0x00 ∷ []) ∷ []) ∷
+    gives (1 ∷ []) ((0x04 ∷ 7 ∷ []) ∷ []) ∷
+    gives (8 ∷ []) (new-235 ∷ []) ∷ []
+unfolding computes
+joins = refl
+
+-- "pass the reading's tests but 6 first, the full one first": 1, 7, 8, 9 and 5 of the full one where the daily one is 7, and of the
+-- daily one where 20 applies too; that ahead of 6, with more lists and with fewer
+abbrev unread : List (List ℕ)
+unread = (0x06 ∷ 0x00 ∷ []) ∷ (0x00 ∷ []) ∷ (0x06 ∷ 0x00 ∷ 0x05 ∷ 0xFF ∷ 0xFF ∷ 0xFF ∷ 0xFE ∷ 0x00 ∷ []) ∷ (0x06 ∷ 0x00 ∷ 0x04 ∷ 0x00 ∷ 0x00 ∷ 0x00 ∷ 0x04 ∷ 0x10 ∷ []) ∷ (0x05 ∷ []) ∷ []
+
+pub order-joins :
+    map (λ bytes. join-deliveries bytes (0x00 ∷ []) []) unread ++ map (λ bytes. join-deliveries (0x08 ∷ []) bytes []) unread ++
+    (join-deliveries (0x08 ∷ []) (0x04 ∷ []) [] ∷ join-deliveries (0x04 ∷ []) (0x08 ∷ []) [] ∷ join-deliveries (0x04 ∷ []) (0x04 ∷ []) [] ∷ [])
+    ≡ map (λ n. refuses n 1 ([] ∷ [])) (1 ∷ 7 ∷ 8 ∷ 9 ∷ 5 ∷ 1 ∷ 7 ∷ 8 ∷ 9 ∷ 5 ∷ 20 ∷ 20 ∷ 6 ∷ [])
+unfolding computes
+order-joins = refl
+
+-- "21 a joined list over 65,535": in one list, and in the second of two (`Longest` has it in the call)
+pub joined-longest : map lengths-hold ((came (replicate 65535 0) ∷ []) ∷ (came (replicate 65536 0) ∷ []) ∷ (undelivered ∷ came (replicate 65536 0) ∷ []) ∷ []) ≡ true ∷ false ∷ false ∷ []
+unfolding computes
+joined-longest = refl
+
+-- "An expression without a difference": list 0 without list 1 has the member 5 over 5 and an empty list, and none once 5 came to the
+-- latter. Over the daily one, where it did not come, list 0 is refused, and over both it is not
+abbrev withdrawn : List ℕ
+withdrawn = wrote (join-deliveries (0x0A ∷ 0x00 ∷ 0x02 ∷ 0x00 ∷ 0x00 ∷ 0x00 ∷ 0x0B ∷ 0x00 ∷ 0x00 ∷ []) (0x09 ∷ 0x00 ∷ 0x01 ∷ 0x00 ∷ 0x00 ∷ 0x00 ∷ 0x05 ∷ []) (replicate 13 7))
+
+pub joined-members :
+    map listing ((0x02 ∷ 0x40 ∷ 0x01 ∷ 0x0A ∷ 0x00 ∷ 0x02 ∷ 0x00 ∷ 0x00 ∷ 0x00 ∷ 0x0B ∷ 0x00 ∷ 0x00 ∷ []) ∷ (0x02 ∷ 0x40 ∷ 0x01 ∷ withdrawn) ∷
+    (0x01 ∷ 0x00 ∷ 0x09 ∷ 0x00 ∷ 0x01 ∷ 0x00 ∷ 0x00 ∷ 0x00 ∷ 0x05 ∷ []) ∷ (0x01 ∷ 0x00 ∷ withdrawn) ∷ [])
+    ≡ accepted (record { members = 5 ∷ []; moves = 1 }) ∷ accepted (record { members = []; moves = 1 }) ∷ refused 18 ∷ accepted (record { members = 5 ∷ []; moves = 1 }) ∷ []
+unfolding computes
+joined-members = refl

@@ -20,3 +20,5 @@ pub mod RequestTwo
 pub mod Bounds
 pub mod RequestFour
 pub mod RequestFive
+pub mod Joined
+pub mod RequestSix

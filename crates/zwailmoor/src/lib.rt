@@ -9,6 +9,7 @@ ghost use Rattle.model.specs.Demands.{Third-demand-met};
 ghost use Rattle.model.specs.Update.{change, update, updated};
 ghost use Rattle.model.specs.RequestOne.{Request-one-met};
 ghost use Rattle.model.specs.Bounds.{bounds, bounded};
+ghost use Rattle.model.specs.Joined.{join-deliveries};
 ghost use Rattle.lists.specs.Span.{span-says};
 use lists::Span;
 use model::BoundsResult;
@@ -81,6 +82,18 @@ pub extern "C" fn zwailmoor_downgrade_delivery(bytes: &[u8], old: &mut [u8]) -> 
     ensures { λ r. ⌜ written r (now (old .exit)) ≡ downgrade-delivery (now (bytes .entry)) (now (old .entry)) ⌝ }
 {
     convert::downgrade_delivery(bytes, old)
+}
+
+// A full delivery and a daily one, joined into one.
+#[no_mangle]
+pub extern "C" fn zwailmoor_join_deliveries(
+    full: &[u8],
+    daily: &[u8],
+    joined: &mut [u8],
+) -> WriteResult
+    ensures { λ r. ⌜ written r (now (joined .exit)) ≡ join-deliveries (now (full .entry)) (now (daily .entry)) (now (joined .entry)) ⌝ }
+{
+    join::join_deliveries(full, daily, joined)
 }
 
 // Where the part of list k stands in the numbers, and its length: C has no slice to hand back.

@@ -1,9 +1,10 @@
-//! The papers' small inputs and examples, lists that were not delivered, lists that readers hop over, bounds, the iterator, and
-//! changes.
+//! The papers' small inputs and examples, lists that were not delivered, deliveries joined, lists that readers hop over, bounds, the
+//! iterator, and changes.
 
 mod bounds;
 mod delivered;
 mod hops;
+mod joined;
 mod members;
 mod paper;
 mod refusals;

@@ -203,7 +203,7 @@ fn runs() {
 
 #[test]
 fn numbers_and_sentences() {
-    assert!(Refusal::ALL.iter().map(|refusal| refusal.number()).eq(1..=19));
+    assert!(Refusal::ALL.iter().map(|refusal| refusal.number()).eq(1..=21));
     let mut sentences = std::collections::HashSet::new();
     for refusal in Refusal::ALL {
         assert_eq!(Refusal::test(refusal.number()), Err(*refusal));
@@ -215,5 +215,5 @@ fn numbers_and_sentences() {
 #[test]
 #[should_panic(expected = "stands for nothing")]
 fn a_number_that_stands_for_nothing() {
-    let _ = Refusal::test(20);
+    let _ = Refusal::test(22);
 }

@@ -366,6 +366,11 @@ fn spoil(random: &mut Random, Lists { numbers, ends, word }: &mut Lists) {
 /// A delivery in a form: mostly well packed, else with a wrong count, a wrong width, or gaps that pass the top.
 pub fn delivery(random: &mut Random, form: Form) -> Vec<u8> {
     let lists = some_lists(random);
+    delivery_of(random, lists, form)
+}
+
+/// The same, of these lists.
+pub fn delivery_of(random: &mut Random, lists: Each, form: Form) -> Vec<u8> {
     let mut bits = Writer::default();
     let count = if random.one_in(30) { random.below(64) } else { lists.len() };
     bits.put(count as u64, 6);

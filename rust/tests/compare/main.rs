@@ -8,6 +8,7 @@ mod deliveries;
 mod evaluator;
 mod expressions;
 mod inputs;
+mod joins;
 mod moves;
 mod random;
 mod rows;
@@ -29,6 +30,7 @@ fn every_refusal_belongs_to_a_call() {
         deliveries::ENCODE_REFUSALS,
         moves::UPGRADE_REFUSALS,
         moves::DOWNGRADE_REFUSALS,
+        joins::REFUSALS,
         bounds::REFUSALS,
         runs::REFUSALS,
         updates::REFUSALS,

@@ -1,5 +1,5 @@
 -- `encode::put_delivered` meets its contract: bit and count, first number, width and gaps are put one behind the other, and putting one
--- behind the other is putting both (`put-append`). Assumes nothing.
+-- behind the other is putting both (`put-two`). Assumes nothing.
 use borrow.Author.Needs.{needs}
 use mathlib.Core.Path.{_≡_, sym, ap, ap₂, _∙_, subst}
 use mathlib.Core.Bool.{Bool}
@@ -13,16 +13,11 @@ use Rattle.model.proofs.Bits.{field-length}
 use Rattle.model.proofs.Sizes.{size-more}
 use Rattle.lists.specs.Rise.{largest}
 use Rattle.fields.specs.Positions.{put-bits}
-use Rattle.fields.proofs.Puts.{put-append}
+use Rattle.fields.proofs.Puts.{put-two}
 use Rattle.encode.specs.Measures.{list-bits, gap-width}
 use Rattle.encode.proofs.Sizes.{Wide, gap-width-wide, bits-none, bits-one, bits-more, list-size-is, size-any, size-some, from-first, largest-first}
 use Rattle.encode.proofs.put_delivered.Statement.{statement}
 use Rattle.encode.proofs.put_delivered.Tie as tie
-
--- two pieces one behind the other
-joined : (s : List ℕ) (at a : ℕ) (xs ys : List Bool) {r t : List ℕ} → length xs ≡ a → at + a ≤ 8 * length s → r ≡ put-bits s at xs → t ≡ put-bits r (at + a) ys → t ≡ put-bits s at (xs ++ ys)
-joined s at a xs ys l h er et =
-    et ∙ ap₂ (λ (row : List ℕ) (p : ℕ). put-bits row p ys) er (ap (λ (k : ℕ). at + k) (sym l)) ∙ put-append s at xs ys (rw l h)
 
 -- what is required, as it is used
 sized : (c : tie.Start) → let l = c .args .list .now in length (list-bits (came l)) ≡ list-size 17 (length l) (c .args .w)
@@ -42,7 +37,7 @@ begun : (c : tie.After-put-field2) → let args = c .before .before .before .bef
 begun c =
     let start = c .before .before .before .before .before .before .before .before .before .before .before in
     let args = start .args in
-    joined (args .s .now) (args .at) 17 (field 17 (65536 + length (args .list .now))) _ (field-length 17 (65536 + length (args .list .now))) (omega (arith, sized start, size-any (length (args .list .now)) (args .w), start .pre .room)) (counted (c .before .before .before .before .before .before)) (c .put-field2 .ensures)
+    put-two (args .s .now) (args .at) 17 (field 17 (65536 + length (args .list .now))) _ (field-length 17 (65536 + length (args .list .now))) (omega (arith, sized start, size-any (length (args .list .now)) (args .w), start .pre .room)) (counted (c .before .before .before .before .before .before)) (c .put-field2 .ensures)
 
 add-head : tie.Need-add-head
 add-head c = search needs
@@ -166,10 +161,10 @@ returns-3 c =
     let less : List Bool = field 5 (gap-width l - 1) in
     let gaps : List Bool = gap-bits (gap-width l) (getD l 0 0) (drop 1 l) in
     let tail : p3 .put-field3 .last .0 ≡ put-bits (args .s .now) (args .at) (head ++ less) =
-    joined (args .s .now) (args .at) 49 head less long (omega (arith, sized start, start .pre .room)) (begun p2)
+    put-two (args .s .now) (args .at) 49 head less long (omega (arith, sized start, start .pre .room)) (begun p2)
     (p3 .put-field3 .ensures ∙ ap (λ (n : ℕ). put-bits (p2 .put-field2 .last .0) (args .at + 49) (field 5 n)) (p3 .before .narrow2 .ensures ∙ ap (λ (n : ℕ). n - 1) (start .pre .wide))) in (
       g .put-gaps .ensures .0 ∙ omega (arith, sized start),
-      joined (args .s .now) (args .at) 54 (head ++ less) gaps (omega (arith, length-append head less, field-length 5 (gap-width l - 1))) (omega (arith, sized start, start .pre .room)) tail
+      put-two (args .s .now) (args .at) 54 (head ++ less) gaps (omega (arith, length-append head less, field-length 5 (gap-width l - 1))) (omega (arith, sized start, start .pre .room)) tail
           (g .put-gaps .ensures .1 ∙ ap (λ (n : ℕ). put-bits (p3 .put-field3 .last .0) (args .at + 54) (gap-bits n (getD l 0 0) (drop 1 l))) (start .pre .wide))
           ∙ ap (put-bits (args .s .now) (args .at))
           (append-assoc head less gaps ∙ append-assoc (field 17 (65536 + length l)) (field 32 (getD l 0 0)) (less ++ gaps) ∙ sym (bits-more l more (start .pre .few))),

@@ -1,4 +1,6 @@
-//! Deliveries, read and written, and moved between the old form and the new one.
+//! Deliveries, read and written, moved between the old form and the new one, and joined.
+
+use std::collections::BTreeSet;
 
 use super::bits::{Reader, Writer};
 use super::lists::{accepted, lent, Each, Lists};
@@ -93,7 +95,8 @@ pub fn write_list(bits: &mut Writer, list: &[u32]) {
     }
 }
 
-fn write(lists: &Each, form: Form) -> Vec<u8> {
+/// Lists in a form, whatever their number.
+pub fn write(lists: &Each, form: Form) -> Vec<u8> {
     let mut bits = Writer::default();
     bits.put(lists.len() as u64, 6);
     for list in lists {
@@ -131,4 +134,26 @@ pub fn downgrade(bytes: &[u8], room: usize) -> Result<Vec<u8>, Refused> {
         return Err(19);
     }
     fitting(write(&lists, Form::Old), room)
+}
+
+/// A full delivery and a daily one made one, into so many bytes.
+pub fn join(full: &[u8], daily: &[u8], room: usize) -> Result<Vec<u8>, Refused> {
+    let (full, daily) = (stored(full, Form::New)?, stored(daily, Form::New)?);
+    if full.len() != daily.len() {
+        return Err(20);
+    }
+    let joined = unions(&full, &daily);
+    if joined.iter().flatten().any(|list| list.len() > 65_535) {
+        return Err(21);
+    }
+    fitting(write(&joined, Form::New), room)
+}
+
+/// The union of both lists of each number, as long as both deliveries have one; where neither came, none.
+pub fn unions(full: &Each, daily: &Each) -> Each {
+    let union = |(one, other): (&Option<Vec<u32>>, &Option<Vec<u32>>)| {
+        let numbers: BTreeSet<u32> = one.iter().chain(other).flatten().copied().collect();
+        (one.is_some() || other.is_some()).then(|| numbers.into_iter().collect())
+    };
+    full.iter().zip(daily).map(union).collect()
 }

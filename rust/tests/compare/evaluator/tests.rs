@@ -1,7 +1,7 @@
 //! The evaluator alone, on the papers' own bytes: it is what the engine is held against.
 
 use super::bounds::{bounds, Bounds};
-use super::delivery::{decode, downgrade, encode, stored, upgrade, Form};
+use super::delivery::{decode, downgrade, encode, join, stored, upgrade, Form};
 use super::expression::{pack, unpack};
 use super::lists::{accepted, delivered, lent, part, Lists};
 use super::update::{update, Change, Kept};
@@ -43,6 +43,26 @@ fn moves() {
     assert_eq!(upgrade(&[0x00], 9), Err(7));
     assert_eq!(upgrade(&[0x04, 0x00, 0x0B, 0xFF, 0xFF, 0xFF, 0xFC, 0x00], 9), Err(8));
     assert_eq!(upgrade(&[0x04, 0x00, 0x08, 0x00, 0x00, 0x00, 0x08, 0x20], 9), Err(9));
+}
+
+#[test]
+fn joins() {
+    let bytes = |lists: &[Option<Vec<u32>>]| encode(&lent(lists), 99).expect("lists of a delivery");
+    let full = bytes(&[Some(vec![2, 3, 5]), None, Some(vec![]), None]);
+    let daily = bytes(&[Some(vec![3, 4]), Some(vec![9]), None, None]);
+    let both = bytes(&[Some(vec![2, 3, 4, 5]), Some(vec![9]), Some(vec![]), None]);
+    assert_eq!(join(&full, &daily, both.len()).as_ref(), Ok(&both));
+    assert_eq!(join(&daily, &full, both.len()).as_ref(), Ok(&both));
+    assert_eq!(join(&full, &full, 99).as_ref(), Ok(&full));
+    assert_eq!(join(&full, &daily, both.len() - 1), Err(6));
+    assert_eq!([join(&full, &NEW, 0), join(&NEW, &full, 0)], [Err(20), Err(20)]);
+    assert_eq!([join(&[0x00], &[], 0), join(&[], &[0x00], 0)], [Err(7), Err(1)]);
+    assert_eq!([join(&NEW, &[0x05], 0), join(&full, &[0x05], 0)], [Err(5), Err(5)]);
+    // 0 to 65,534, with the last of them, and with one more.
+    let long = encode(&lent(&[Some((0..65_535).collect())]), 9000).expect("a list of the greatest length");
+    let [last, more] = [65_534, 65_535].map(|number| bytes(&[Some(vec![number])]));
+    assert_eq!(join(&long, &last, 9000).as_ref(), Ok(&long));
+    assert_eq!(join(&more, &long, 0), Err(21));
 }
 
 #[test]

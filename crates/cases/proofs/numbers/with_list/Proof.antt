@@ -10,8 +10,8 @@ Inv-loop case list n m₀ place₀ slot₀ m place slot = place ≤ 511
 abbrev μ-loop : tie.MeasureT-loop
 μ-loop case list n m₀ place₀ slot₀ m place slot = n - slot
 
-candidates-requires : tie.Need-candidates-requires Inv-loop μ-loop
-candidates-requires c κs = search needs
+offered-requires : tie.Need-offered-requires Inv-loop μ-loop
+offered-requires c κs = search needs
 
 loop-holds : tie.Need-loop-holds Inv-loop μ-loop
 loop-holds c = search needs
@@ -52,7 +52,7 @@ with-list-spec =
     (tie.spec
     Inv-loop
     μ-loop
-    candidates-requires
+    offered-requires
     loop-holds
     candidate-requires
     narrow-requires

@@ -1,0 +1,4 @@
+-- The root of the definitions.
+pub mod Streams
+pub mod Measures
+pub mod Fits
