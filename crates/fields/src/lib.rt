@@ -93,7 +93,7 @@ pub fn field_at(s: &[u8], at: usize, w: usize) -> u32
 }
 
 // The same, for fields that are taken one behind the other: off five bytes where so many are there, so that their number does not
-// change from field to field, which a processor guesses badly.
+// change from field to field. Joining is faster by it (docs/BENCHMARKS.md).
 pub fn next_field(s: &[u8], at: usize, w: usize) -> u32
     requires { ⌜ (w ≤ 32) × (at + w ≤ 8 * length (now s)) ⌝ }
     ensures { λ r. ⌜ r ≡ value (take w (drop at (bits (now (s .entry))))) ⌝ }
