@@ -1,5 +1,7 @@
 // How large it will get, from the ends and the expression alone: the most members, the most moves, and the most bytes of a delivery.
 // No number is read. The nodes are gone through one by one, so the stack does not depend on the expression.
+#![tactic(auto)]
+
 ghost use Rattle.std.specs.Prelude.{◌≡◌, true, ℕ, ◌≤◌, ◌<◌, ◌^◌, length, get_or};
 ghost use Rattle.model.specs.declared.Node.{Node};
 ghost use Rattle.model.specs.declared.Node.TheVariants.{Leaf};

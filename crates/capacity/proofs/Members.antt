@@ -1,6 +1,6 @@
 -- The members of an expression are never more than the rule says: any ascending numbers that are members of it are counted against the
 -- lists at its leaves. Numbers of a union are parted by its first member node. Assumes nothing.
-use mathlib.Core.Path.{◌≡◌, refl, sym, ◌∙◌}
+use mathlib.Core.Path.{◌≡◌, refl, sym, subst, ◌∙◌}
 use mathlib.Core.Bool.{Bool, true, false, not, ◌||◌}
 use mathlib.Core.List.{List, [], ◌∷◌, ◌++◌, map}
 use Prim.Native.Nat.{ℕ, suc, ◌+◌, ◌*◌, ◌≤◌}
@@ -77,7 +77,7 @@ keep-among p x (y ∷ ys) h = go (p y) refl (λ m. let a = keep-among p x ys m i
   where
     go : (b : Bool) → p y ≡ b → (among x (keep p ys) ≡ true → (p x ≡ true) × (among x (y ∷ ys) ≡ true))
         → among x (elim b [ true ↦ y ∷ keep p ys | false ↦ keep p ys ]) ≡ true → (p x ≡ true) × (among x (y ∷ ys) ≡ true)
-    go true e later m = or_true (eqb x y) (among x (keep p ys)) (λ q. let same = eqb-true x y q in (rw same e, rw same (first-among y ys))) later m
+    go true e later m = or_true (eqb x y) (among x (keep p ys)) (λ q. let same = eqb-true x y q in (rw same e, subst (λ z. among x (z ∷ ys) ≡ true) same (first-among x ys))) later m
     go false e later m = later m
 
 keep-both : (p : ℕ → Bool) (xs : List ℕ) → length (keep p xs) + length (keep (λ x. not (p x)) xs) ≡ length xs

@@ -14,7 +14,7 @@ use Rattle.model.specs.declared.Reply.{Reply}
 use Rattle.model.specs.declared.Reply.TheVariants.{Member, Finished}
 use Rattle.model.specs.Outcome.{accepted, number_of, Sent}
 use Rattle.model.specs.Lists.{top, Numbers, count_holds, delivered, word_holds, Lent, lend, lists_of, or_empty, span_of}
-use Rattle.model.specs.Expression.{Tree, leaf, difference, union, intersection, Members, one, more, size}
+use Rattle.model.specs.Expression.{Tree, leaf, difference, union, intersection, Members, one, more}
 use Rattle.model.specs.Sets.{among, all_numbers, members}
 use Rattle.model.specs.Machine.{calls, encode}
 use Rattle.model.specs.Run.{Start, Low, run, Source, named_in, source_of, run_of}

@@ -1,6 +1,8 @@
 // A fixed, seeded generator of inputs, for comparing two implementations of a run. Every value is a
 // function of the case's number and of what it is for, so any case can be made again from its
 // number alone.
+#![tactic(auto)]
+
 pub mod changes;
 pub mod damage;
 pub mod dice;

@@ -1,5 +1,7 @@
 // One generated change given to the engine and to the second evaluator; what a run over the changed lists draws, and the change taken
 // back.
+#![tactic(auto)]
+
 pub mod evaluated;
 pub mod lent;
 

@@ -1,6 +1,8 @@
 // "To check D": the check of a node and the check over its member nodes call each other. With every step down to a member node fewer
 // nodes remain. Every check takes the readers by value and hands them back by value with its reply; a member node that is a list is
 // read in the operator's own copy, as in a seek.
+#![tactic(auto)]
+
 ghost use Rattle.std.specs.Prelude.{length};
 ghost use Rattle.reader.specs.Rows.{Standing, StandingEach, Ready};
 ghost use Rattle.reader.specs.Sought.{Tallied};

@@ -1,5 +1,7 @@
 // One generated case given to the engine and to the second evaluator: both stored forms written and read back, the delivery moved to
 // its old form and back, a run, the run broken off and resumed, the bounds, and the program's list.
+#![tactic(auto)]
+
 pub mod evaluated;
 pub mod lent;
 pub mod rows;

@@ -1,6 +1,8 @@
 // A stored delivery moved from 01's form to the one in which a bit precedes each count, and back. It is walked through once, which
 // tests it and keeps where each list stands; then the bits of each list are copied as they are, behind a bit or without theirs.
 // Both moves are one function, by whether the delivery that is read has the bits.
+#![tactic(auto)]
+
 ghost use Rattle.std.specs.Prelude.{◌≡◌, false, ◌+◌, ◌-◌, ◌*◌, ◌/◌, ◌%◌, ◌^◌, ◌≤◌, ◌<◌, length, replicate};
 ghost use Rattle.std.proofs.Math.Option.{none};
 ghost use Rattle.model.specs.Outcome.{number_of};

@@ -1,5 +1,7 @@
 // A delivery, read. It is walked through once without writing (`walk`), so that a refusal, however late, leaves the lent rows
 // as they are, and once more to write what is then known to read. Both walks are held to the one definition of reading.
+#![tactic(auto)]
+
 ghost use Rattle.std.specs.Prelude.{◌≡◌, ◌+◌, ◌-◌, ◌*◌, ◌^◌, ◌≤◌, ◌<◌, length};
 ghost use Rattle.model.specs.Calls.{decoded, decode_delivery};
 ghost use Rattle.decode.specs.Stores.{GapsStored, BodyStored, ListStored, ListsRead, ListsStored};

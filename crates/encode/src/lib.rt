@@ -1,5 +1,7 @@
 // A delivery, written. One pass over the numbers tests that each list ascends and finds the width of its gaps, a second one
 // writes; in between, the row is known to be long enough.
+#![tactic(auto)]
+
 ghost use Rattle.std.specs.Prelude.{◌≡◌, true, cond, ◌+◌, ◌-◌, ◌*◌, ◌^◌, ◌≤◌, ◌<◌, length, get_or, drop};
 ghost use Rattle.model.specs.Lists.{lists_from, ends_hold, lend};
 ghost use Rattle.model.specs.Delivery.{gap_bits, came, list_size, supplied};

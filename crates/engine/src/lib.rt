@@ -1,5 +1,7 @@
 // A run: the tests in 01's order, then the calls one after another, each with the floor, places and moves that the call before
 // it left.
+#![tactic(auto)]
+
 ghost use Rattle.std.specs.Prelude.{◌≡◌, cond, ◌&&◌, ◌≤◌, ◌<◌, max, leb, eqb, length};
 ghost use Rattle.model.specs.declared.Reply.TheVariants.{Yes, No, Unknown};
 ghost use Rattle.model.specs.Lists.{top, lend};

@@ -1,6 +1,8 @@
 // A second evaluator for runs: what the paper's plain machine replies, over membership that is decided number by number.
 // It has no readers and no steps, so that it shares nothing with an engine that it is compared with. And one for a change of a
 // list, with the kept row of members: both are worked out afresh, and nothing is moved in a row. And one for how large it can get.
+#![tactic(auto)]
+
 mod bound;
 mod change;
 mod lent;

@@ -1,6 +1,8 @@
 // Reading an expression in either stored form, into one byte a node: "At each node: 2, 3, 1, then 4 (in a row also 14)", and
 // 18. "After the last: 5". It is the part that every call on an expression shares: 7 is tested ahead of it, and 6 behind it, by the
 // call.
+#![tactic(auto)]
+
 ghost use Rattle.std.specs.Prelude.{◌≡◌, ◌*◌, ◌^◌, ◌≤◌, ◌<◌, length};
 ghost use Rattle.model.specs.Outcome.{refused as refusal, number_of};
 ghost use Rattle.model.specs.Forms.{row_byte, node_of, take_node, there};

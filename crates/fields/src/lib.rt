@@ -1,5 +1,7 @@
 // A field of 1 to 32 bits at a bit position, taken off a row of bytes and put into one: shifts and masks over the at most
 // five bytes that hold it. "Fields run on across byte borders, most significant bit first".
+#![tactic(auto)]
+
 ghost use Rattle.std.specs.Prelude.{◌≡◌, ◌+◌, ◌-◌, ◌*◌, ◌/◌, ◌%◌, ◌^◌, ◌≤◌, ◌<◌, length, take, drop};
 ghost use Rattle.model.specs.Fields.{bits, value, field, only_fill};
 ghost use Rattle.model.specs.Lists.{delivered};

@@ -1,5 +1,7 @@
 // An expression from one stored form into the other. It is read first, so that a refusal leaves the lent row as it is; what
 // reading hands back is one byte a node, which is copied out, or put as the bits that say the same.
+#![tactic(auto)]
+
 ghost use Rattle.std.specs.Prelude.{◌≡◌, ◌*◌, ◌≤◌, length};
 ghost use Rattle.model.specs.Calls.{written, unpack_expression, pack_expression};
 ghost use Rattle.fields.specs.Rows.{lay};

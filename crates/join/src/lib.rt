@@ -1,6 +1,8 @@
 // A full delivery and a daily one made one. Each is walked through once, which tests it (`walk`); then both are drawn from side by side,
 // list by list and number by number, twice: the first time finds how many numbers each joined list has and the width of its gaps, the
 // second writes. No row of numbers is kept.
+#![tactic(auto)]
+
 ghost use Rattle.std.specs.Prelude.{◌≡◌, true, ◌+◌, ◌*◌, ◌^◌, ◌≤◌, ◌<◌, min, max, length};
 ghost use Rattle.model.specs.Lists.{top, rises};
 ghost use Rattle.model.specs.Calls.{written};

@@ -1,4 +1,6 @@
 // One generated pair of deliveries joined by the engine and by the second evaluator; the other way round, and one with itself.
+#![tactic(auto)]
+
 pub mod evaluated;
 
 use cases::{first_bytes, first_numbers};

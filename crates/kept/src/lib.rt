@@ -1,4 +1,6 @@
 // What is asked ahead of a change: whether a kept row holds an expression's members, where a number stands, and whether it will be a member.
+#![tactic(auto)]
+
 ghost use Rattle.std.specs.Prelude.{◌≡◌, true, ◌≤◌, ◌<◌, length};
 ghost use Rattle.model.specs.Lists.{count_holds};
 ghost use Rattle.lists.specs.Readable.{Readable};

@@ -1,4 +1,6 @@
 // Every member of an expression, drawn by next into a row: the whole work of the program `members`.
+#![tactic(auto)]
+
 ghost use Rattle.std.specs.Prelude.{◌≡◌, ◌≤◌, length};
 ghost use Rattle.model.specs.Lists.{lists_from};
 ghost use Rattle.model.specs.Calls.{counted};

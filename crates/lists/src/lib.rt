@@ -1,5 +1,7 @@
 // Lists lent as one row of numbers, one end for each and a word that says which of them came: whether 7, 10 or 11 refuses
 // them, and the part of one list.
+#![tactic(auto)]
+
 
 ghost use Rattle.std.specs.Prelude.{◌≡◌, true, ◌&&◌, ◌||◌, ◌∷◌, ◌-◌, ◌≤◌, ◌<◌, eqb, length, get_or};
 ghost use Rattle.model.specs.Outcome.{number_of};

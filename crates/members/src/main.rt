@@ -1,5 +1,7 @@
 // Reads one byte, the expression's length, then the expression and the delivery, from standard input. Prints each member of the
 // expression over the delivered lists on a line, then the moves; or the number of a refusal. The text is `report::report`'s.
+#![tactic(auto)]
+
 ghost use Rattle.std.specs.Prelude.{◌≤◌, length};
 
 use libc::{STDERR_FILENO, STDIN_FILENO, STDOUT_FILENO};

@@ -12,7 +12,7 @@ use Rattle.model.specs.declared.Node.{Node}
 use Rattle.model.specs.declared.Node.TheVariants.{Leaf, Difference, Union, Intersection}
 use Rattle.model.specs.Outcome.{Outcome, refused, accepted, ◌>>=◌, ◌>>◌, require}
 use Rattle.model.specs.Lists.{top}
-use Rattle.model.specs.Expression.{Tree, union, intersection, Members, one}
+use Rattle.model.specs.Expression.{Tree, union, intersection, Members}
 use Rattle.model.specs.Forms.{take_rest, take_kind, take_node, LeafTest, read_members, operator, read_below, read_tree}
 use Rattle.model.specs.Delivery.{largest_gap, width, read_gaps, read_body, Form, by_count, take_count, by_bit, read_list, read_lists}
 

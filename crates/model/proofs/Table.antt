@@ -4,10 +4,13 @@
 use mathlib.Core.Path.{◌≡◌, refl}
 use mathlib.Core.Bool.{true, false}
 use mathlib.Core.List.{List, [], ◌∷◌, ◌++◌, map, flat_map}
-use Prim.Native.Nat.{ℕ, zero, suc, ◌+◌, ◌-◌}
+use Prim.Native.Nat.{ℕ, zero, suc, ◌+◌, ◌-◌, ◌≤◌}
 use native.Mathlib.Omega.{arith}
+use Rattle.std.proofs.lemmas.Bool.{le-leb}
+use Rattle.std.proofs.Math.Dec.{leb, leb-zero}
+use Rattle.model.proofs.Bits.{bits-length}
 use Rattle.model.specs.Lists.{Numbers, Lent, lend}
-use lib.ListN.{replicate, length}
+use lib.ListN.{replicate, length, length-replicate}
 use Rattle.model.specs.declared.Reply.{Reply}
 use Rattle.model.specs.declared.Reply.TheVariants.{Member, Finished, Yes, No, Unknown}
 use Rattle.model.specs.Outcome.{refused, accepted, Sent, sent, over}
@@ -731,9 +734,15 @@ order_numbers zero = omega arith
 order_numbers (suc i) = omega arith
 
 -- 65,535 bytes are read: an expression of no bytes, and a delivery of 0 lists, which is tested first
-pub largest_input : listing (replicate 65535 0) ≡ refused 7
+no_lists : (bs : List ℕ) → leb (length (0 ∷ 0 ∷ bs)) 65535 ≡ true → leb 6 (length (Fields.bits (0 ∷ bs))) ≡ true → listing (0 ∷ 0 ∷ bs) ≡ refused 7
 unfolding computes
-largest_input = refl
+no_lists bs h k = rw (h, leb-zero (length (0 ∷ bs)), k) refl
+
+zeros_refused : (n : ℕ) → n ≤ 65533 → listing (replicate (suc (suc n)) 0) ≡ refused 7
+zeros_refused n h = no_lists (replicate n 0) (le-leb _ _ (omega (arith, length-replicate {A = ℕ} n 0))) (le-leb _ _ (omega (arith, bits-length (0 ∷ replicate n 0))))
+
+pub largest_input : listing (replicate 65535 0) ≡ refused 7
+largest_input = zeros_refused 65533 (omega arith)
 
 pub example : listing stored_example ≡ accepted (record { members = 2 ∷ 3 ∷ 5 ∷ []; moves = 3 })
 unfolding computes

@@ -1,4 +1,6 @@
 // The types that the definitions and every other crate share. Their meaning is in specs/.
+#![tactic(auto)]
+
 ghost use Rattle.std.specs.Prelude.{◌≡◌};
 ghost use Rattle.model.specs.Calls.{written_refused, decoded_refused, ran_refused, counted_refused};
 ghost use Rattle.model.specs.Bounds.{bounded_refused};

@@ -1,5 +1,7 @@
 // A page of members: drawn by next into a row, all of them, or so many, or until finished. Whatever draws members into a row
 // draws them by this.
+#![tactic(auto)]
+
 ghost use Rattle.std.specs.Prelude.{◌≤◌, length};
 ghost use Rattle.model.specs.Lists.{top};
 ghost use Rattle.reader.specs.Rows.{Standing, Ready};

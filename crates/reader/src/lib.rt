@@ -1,4 +1,6 @@
 // One reader's step over its list, and the table that says where each node of an expression ends.
+#![tactic(auto)]
+
 ghost use Rattle.std.specs.Prelude.{◌≡◌, true, [], ℕ, ◌+◌, ◌-◌, ◌/◌, ◌≤◌, ◌<◌, length, get_or, drop};
 ghost use Rattle.model.specs.Outcome.{accepted};
 ghost use Rattle.model.specs.Lists.{top, ascending, lists_from};

@@ -1,4 +1,6 @@
 // One generated expression and one that it was regrouped to, over the same lists, both put to the engine and to the second evaluator.
+#![tactic(auto)]
+
 pub mod totals;
 
 use cases::{Begin, Bytes, Lists, Row, first_bytes, first_numbers};

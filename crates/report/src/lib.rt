@@ -1,4 +1,6 @@
 // The text that the program `members` prints, made whole in one row of bytes.
+#![tactic(auto)]
+
 ghost use Rattle.std.specs.Prelude.{◌≡◌, [], ◌∷◌, ◌+◌, ◌%◌, ◌≤◌, ◌<◌, length};
 ghost use Rattle.model.specs.Program.{listing};
 ghost use Rattle.fields.specs.Rows.{lay};

@@ -2,6 +2,8 @@
 // nodes remain; difference and intersection repeat at a higher number each time. Every seek takes the readers by value and hands them
 // back by value with its answer. A member node that is a list is read in the operator's own copy of the readers: its reader takes one
 // place and hands back the new one, and where it stays, nothing is written.
+#![tactic(auto)]
+
 ghost use Rattle.std.specs.Prelude.{◌≡◌, ◌&&◌, not, ◌≤◌, ltb, eqb, length, get_or};
 ghost use Rattle.model.specs.declared.Node.TheVariants.{Difference, Union, Intersection};
 ghost use Rattle.model.specs.Outcome.{accepted};

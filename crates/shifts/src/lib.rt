@@ -1,5 +1,7 @@
 // One number in an ascending row: where it stands or belongs, and the row with that number put in or taken out, the numbers behind it
 // moved by one place.
+#![tactic(auto)]
+
 ghost use Rattle.std.specs.Prelude.{◌≡◌, true, false, ℕ, length};
 ghost use Rattle.model.specs.Lists.{ascending};
 ghost use Rattle.model.specs.Sets.{among};

@@ -6,7 +6,7 @@ use Prim.Native.Nat.{ℕ, zero, suc, ◌+◌, ◌-◌}
 use lib.Dec.{ltb}
 use Rattle.model.specs.declared.Node.{Node}
 use Rattle.model.specs.declared.Node.TheVariants.{Leaf, Difference, Union, Intersection}
-use Rattle.model.specs.Outcome.{Outcome, accepted, ◌>>=◌, ◌>>◌}
+use Rattle.model.specs.Outcome.{Outcome, accepted, ◌>>=◌}
 use Rattle.model.specs.Expression.{Tree, leaf, difference, union, intersection, Members, one, more}
 use Rattle.model.specs.Fields.{field, take_field}
 use Rattle.model.specs.Forms.{LeafTest, node_of, take_byte, take_rest, take_kind, take_node, read_members, operator, read_below, read_tree}

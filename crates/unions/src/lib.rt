@@ -1,6 +1,8 @@
 // A second join of a full delivery and a daily one, which shares nothing with an engine that it is compared with. Both are read; the
 // numbers of a joined list are then drawn as the plain machine draws the members of a union, each the least of either list that is not
 // below the floor. No two lists are walked side by side.
+#![tactic(auto)]
+
 mod bits;
 mod delivery;
 

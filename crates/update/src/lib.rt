@@ -1,5 +1,7 @@
 // One number added to a list or removed from it in the lent lists, and a kept row of an expression's members brought up to date with
 // it. Nothing is written before the last test has passed.
+#![tactic(auto)]
+
 ghost use Rattle.std.specs.Prelude.{◌≡◌, ◌-◌, ◌≤◌, ◌<◌, true, not, ◌||◌, ◌∷◌, ltb, length, get_or};
 ghost use Rattle.model.specs.Outcome.{accepted};
 ghost use Rattle.model.specs.Lists.{count_holds, ends_hold, lend};

@@ -1,5 +1,7 @@
 // A delivery, walked through without writing. Whatever reads one, in either form and with rows lent or none, walks through it
 // once with these before it writes, so that a refusal, however late, leaves what is lent as it is.
+#![tactic(auto)]
+
 ghost use Rattle.std.specs.Prelude.{◌≡◌, ◌^◌, ◌≤◌, ◌<◌, max, length};
 ghost use Rattle.model.specs.Outcome.{number_of};
 ghost use Rattle.model.specs.Delivery.{largest_gap, read_gaps, read_body};

@@ -1,6 +1,8 @@
 // The public calls for C and Rust: a static library. Each passes its arguments on and promises, for all of them, what the call
 // behind it promises. A slice is a pointer and a length to C; include/zwailmoor.h declares the same functions. No function keeps
 // anything between calls, and none calls C.
+#![tactic(auto)]
+
 ghost use Rattle.std.specs.Prelude.{◌≡◌};
 ghost use Rattle.model.specs.Lists.{lend, span_of};
 ghost use Rattle.model.specs.Run.{starting};
