@@ -3,15 +3,7 @@ use mathlib.Core.Path.{ap, ◌∙◌}
 use Prim.Native.Nat.{ℕ}
 use native.Mathlib.Nat.{mod-eq_of_lt}
 use lib.Bits.{bit_or, or_shifted}
-use borrow.Author.Rules.{rules}
-use Rattle.fields.proofs.join.Statement.{statement}
-use Rattle.fields.proofs.join.Tie as tie
+use Rattle.fields.proofs.join.Goals as goal
 
-shl-result : tie.Need-overflow-shl-result
-shl-result c = search rules
-
-returns : tie.Need-returns
+pub returns : goal.returns
 returns c = ap (λ (n : ℕ). bit_or n c.args.y) (mod-eq_of_lt c.requires.1) ∙ or_shifted c.args.x c.args.k c.args.y c.requires.2
-
-pub join-spec : {M : Type 1} → statement M
-join-spec = tie.close (tie.spec shl-result returns)

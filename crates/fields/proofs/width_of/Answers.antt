@@ -10,8 +10,7 @@ use lib.Count.{count_leading_zeros, leading_le, leading_length}
 use Rattle.model.specs.Lists.{top}
 use Rattle.model.specs.Delivery.{width}
 use Rattle.model.proofs.Deliveries.{LeastWidth, width_is}
-use Rattle.fields.proofs.width_of.Statement.{statement}
-use Rattle.fields.proofs.width_of.Tie as tie
+use Rattle.fields.proofs.width_of.Goals as goal
 
 len : (m : ℕ) → m < 2 ^ 32 → (m < 2 ^ (32 - count_leading_zeros 32 m)) × (2 ^ (32 - count_leading_zeros 32 m) ≤ 2 * m + 1)
 len m h =
@@ -29,22 +28,19 @@ least m n k le lt = elim (dec_le n k) [ yes h ↦ h | no h ↦ absurd (bad h) ]
 same : (m n : ℕ) → m < top → LeastWidth m n → n ≡ width m
 same m n h w = let v = width_is m h in omega (arith, w.least (width m) v.one v.holds, v.least n w.one w.holds)
 
-sub-n : tie.Need-overflow-sub-n
-sub-n c = leading_le 32 c.args.m
+pub overflow_sub-n : goal.overflow_sub-n
+overflow_sub-n c = leading_le 32 c.args.m
 
-returns : tie.Need-returns
-returns c =
-    let m : ℕ = c.before.args.m in
-    let l = len m c.before.ranges.m.fits in
-    let none : 32 - count_leading_zeros 32 m ≡ 0 = c.if1.true in
+pub returns-then-n-eq0 : goal.returns-then-n-eq0
+returns-then-n-eq0 c =
+    let m : ℕ = c.args.m in
+    let l = len m c.ranges.m.fits in
+    let none : 32 - count_leading_zeros 32 m ≡ 0 = c.if-n-eq0.true in
     let zero : m < 2 ^ 0 = rw none at l.0 in
-    same m 1 c.before.ranges.m.fits (record { one = omega arith; holds = omega arith; least = λ k h _. h })
+    same m 1 c.ranges.m.fits (record { one = omega arith; holds = omega arith; least = λ k h _. h })
 
-returns-2 : tie.Need-returns-2
-returns-2 c =
-    let m : ℕ = c.before.args.m in
-    let l = len m c.before.ranges.m.fits in
-    same m (32 - count_leading_zeros 32 m) c.before.ranges.m.fits (record { one = omega arith; holds = l.0; least = λ k _ h. least m _ k l.1 h })
-
-pub width-of-spec : {M : Type 1} → statement M
-width-of-spec = tie.close (tie.spec sub-n returns returns-2)
+pub returns-else-n-eq0 : goal.returns-else-n-eq0
+returns-else-n-eq0 c =
+    let m : ℕ = c.args.m in
+    let l = len m c.ranges.m.fits in
+    same m (32 - count_leading_zeros 32 m) c.ranges.m.fits (record { one = omega arith; holds = l.0; least = λ k _ h. least m _ k l.1 h })
