@@ -33,7 +33,7 @@ pub struct Change {
 }
 
 // A kept row, of which so many elements are lent, and how many members it is said to have.
-#[derive(Drop)]
+#[derive(Clone, Copy)]
 pub struct Kept {
     pub row: [u32; 520],
     pub room: usize,

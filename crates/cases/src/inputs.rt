@@ -2,7 +2,7 @@
 ghost use Rattle.std.specs.Prelude.{◌<◌};
 
 // Lists as the paper lends them: all numbers in one row, one end for each list, and the word that says which were delivered.
-#[derive(Drop)]
+#[derive(Clone, Copy)]
 pub struct Lists {
     pub numbers: [u32; 512],
     pub ends: [u32; 32],
@@ -12,14 +12,14 @@ pub struct Lists {
 }
 
 // An expression in row form.
-#[derive(Drop)]
+#[derive(Clone, Copy)]
 pub struct Row {
     pub bytes: [u8; 48],
     pub count: usize,
 }
 
 // The calls of a run: a code and a number each.
-#[derive(Drop)]
+#[derive(Clone, Copy)]
 pub struct Calls {
     pub codes: [u8; 32],
     pub arguments: [u32; 32],
@@ -27,13 +27,13 @@ pub struct Calls {
 }
 
 // Where a run begins.
-#[derive(Drop)]
+#[derive(Clone, Copy)]
 pub struct Begin {
     pub bookmark: u64,
 }
 
 // A packed expression.
-#[derive(Drop)]
+#[derive(Clone, Copy)]
 pub struct Bytes {
     pub bytes: [u8; 64],
     pub count: usize,

@@ -2,7 +2,7 @@
 use crate::inputs::Bytes;
 
 // Bits in bytes, the most significant first, and how many there are.
-#[derive(Drop)]
+#[derive(Clone, Copy)]
 struct Bits {
     bytes: [u8; 64],
     count: usize,

@@ -26,7 +26,7 @@ const UNION: u64 = 128;
 const INTERSECTION: u64 = 192;
 
 // A row being made: the nodes placed, how many are still owed, and how many of these at each depth.
-#[derive(Drop)]
+#[derive(Clone, Copy)]
 struct Growth {
     bytes: [u8; 48],
     left: [u8; 13],

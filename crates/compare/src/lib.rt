@@ -21,7 +21,7 @@ pub const MARK: u64 = 12297829382473034410;
 pub const MARK_32: u32 = 2863311530;
 
 // What came out differently, 0 where nothing did, and what the engine's run handed back, of the places their sum.
-#[derive(Drop)]
+#[derive(Clone, Copy)]
 pub struct Verdict {
     pub differs: u32,
     pub number: u32,

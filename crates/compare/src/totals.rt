@@ -6,7 +6,7 @@ use crate::rows::{long, wide};
 
 // What the cases of one kind came to: the calls' replies by kind, the runs' moves and places, the members that came or went by a
 // change, the bytes that joins wrote, the runs, changes or joins by their number.
-#[derive(Drop)]
+#[derive(Clone, Copy)]
 pub struct Totals {
     pub differ: u64,
     pub members: u64,

@@ -7,7 +7,7 @@ use joined::evaluated;
 use model::WriteResult;
 
 // The first bytes of a delivery, at most 80, and how many zero bytes it has behind them, at most 65,536.
-#[derive(Drop)]
+#[derive(Clone, Copy)]
 pub struct Given {
     pub row: [u8; 80],
     pub count: usize,

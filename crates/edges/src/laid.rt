@@ -5,7 +5,7 @@ use crate::words::Numeral;
 use crate::{text, words};
 
 // How many numbers were laid so far, where the lists that have ended end, how many these are, and whether every word has read.
-#[derive(Drop)]
+#[derive(Clone, Copy)]
 pub struct Laid {
     pub numbers: usize,
     pub ends: [u32; 80],

@@ -7,7 +7,7 @@ pub const TOP: u64 = 4294967295;
 pub const TOP_64: u64 = 18446744073709551615;
 
 // How a field is written: numbers up to a greatest one, bytes of two hexadecimal digits, or calls.
-#[derive(Drop)]
+#[derive(Clone, Copy)]
 pub enum Form {
     Decimal(u64),
     Hexadecimal,

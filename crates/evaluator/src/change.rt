@@ -11,7 +11,7 @@ use crate::{lent, tokens};
 const TOP: u64 = 4294967296;
 
 // What is asked for: the number is removed from the list where add is 0, and else added to it.
-#[derive(Drop)]
+#[derive(Clone, Copy)]
 pub struct Change {
     pub list: usize,
     pub number: u32,
@@ -19,7 +19,7 @@ pub struct Change {
 }
 
 // What it comes to: the number of a refusal or 0, how the lists lie then, and how many members there are.
-#[derive(Drop)]
+#[derive(Clone, Copy)]
 pub struct Updated {
     pub number: u32,
     pub lists: Lists,

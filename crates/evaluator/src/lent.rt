@@ -3,7 +3,7 @@
 // How the lent numbers lie in lists: how many lists there are, where each ends, and the word that says which were delivered. Whatever
 // else is said of lists belongs here; the numbers stay a slice beside it, since a struct is handed on by value. There is room for more
 // ends than are accepted, so that these can be handed in.
-#[derive(Drop)]
+#[derive(Clone, Copy)]
 pub struct Lists {
     pub ends: [u32; 80],
     pub count: usize,

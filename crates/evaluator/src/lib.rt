@@ -27,7 +27,7 @@ const FINISHED: u64 = 4294967298;
 const UNKNOWN: u64 = 4294967299;
 
 // Where a run begins, and where each of its calls leaves it: the floor, which is the bookmark of the next run.
-#[derive(Drop)]
+#[derive(Clone, Copy)]
 pub struct Begin {
     pub bookmark: u64,
 }

@@ -13,7 +13,7 @@ use fields::Field;
 use model::Node;
 
 // The two stored forms.
-#[derive(Drop)]
+#[derive(Clone, Copy)]
 pub enum Form {
     Packed,
     Row,

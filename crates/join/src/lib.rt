@@ -24,7 +24,7 @@ enum Tested {
 
 // A list of a delivery that is drawn from: its next number, 4,294,967,296 where there is none; how many are behind it, the width of
 // their gaps, and the bit position of the first of these.
-#[derive(Drop)]
+#[derive(Clone, Copy)]
 struct Stream {
     number: u64,
     left: u32,
@@ -40,7 +40,7 @@ struct Opened {
 }
 
 // The same list of both deliveries.
-#[derive(Drop)]
+#[derive(Clone, Copy)]
 struct Pair {
     full: Stream,
     daily: Stream,

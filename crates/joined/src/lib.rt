@@ -65,7 +65,7 @@ pub fn pair_of(case: u64) -> Pair {
 }
 
 // What two deliveries are joined to, and the bytes lent.
-#[derive(Drop)]
+#[derive(Clone, Copy)]
 struct Made {
     result: WriteResult,
     bytes: [u8; 5120],

@@ -7,7 +7,7 @@ ghost use Rattle.model.specs.Bounds.{bounded_refused};
 
 // One node of an expression: a list by its number, a difference of two nodes, a union or an intersection of 1 to 8
 // (their number). Its member nodes follow it, each with all that is below it.
-#[derive(Drop)]
+#[derive(Clone, Copy)]
 pub enum Node {
     Leaf(u8),
     Difference,
@@ -27,7 +27,7 @@ pub enum Reply {
 
 // What a call that writes into one lent row hands back: the number of a refusal or 0, and how many elements it wrote.
 #[repr(C)]
-#[derive(Drop)]
+#[derive(Clone, Copy)]
 pub struct WriteResult {
     pub number: u32,
     pub count: usize,
@@ -45,7 +45,7 @@ impl WriteResult {
 // What reading a delivery hands back: the number of a refusal or 0, the word that says which lists came, how many lists, and
 // how many numbers in all of them.
 #[repr(C)]
-#[derive(Drop)]
+#[derive(Clone, Copy)]
 pub struct DecodeResult {
     pub number: u32,
     pub word: u32,
@@ -69,7 +69,7 @@ impl DecodeResult {
 
 // What a run hands back: the number of a refusal or 0, the moves, the place of each node's reader, and the bookmark.
 #[repr(C)]
-#[derive(Drop)]
+#[derive(Clone, Copy)]
 pub struct RunResult {
     pub number: u32,
     pub moves: u32,
@@ -92,7 +92,7 @@ impl RunResult {
 }
 
 // What the work of the program `members` hands back: the number of a refusal or 0, how many members, and the moves.
-#[derive(Drop)]
+#[derive(Clone, Copy)]
 pub struct MembersResult {
     pub number: u32,
     pub count: usize,
@@ -114,7 +114,7 @@ impl MembersResult {
 
 // What is said of a run before it: the number of a refusal or 0, the most members, the most moves, and the most bytes of a delivery.
 #[repr(C)]
-#[derive(Drop)]
+#[derive(Clone, Copy)]
 pub struct BoundsResult {
     pub number: u32,
     pub members: u32,

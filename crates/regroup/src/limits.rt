@@ -4,7 +4,7 @@ use cases::Row;
 use cases::trees::next_depth;
 
 // How many nodes are owed at each depth, and whether all before them are within the limits.
-#[derive(Drop)]
+#[derive(Clone, Copy)]
 struct Descent {
     left: [u8; 13],
     within: bool,

@@ -6,7 +6,7 @@ const TOP: u64 = 4294967296;
 
 // How numbers lie in a row in lists, at most 32: where each list ends, how many there are, and the word that says which were delivered,
 // list 0 in its most significant bit.
-#[derive(Drop)]
+#[derive(Clone, Copy)]
 pub struct Lists {
     pub ends: [usize; 32],
     pub count: usize,
@@ -23,7 +23,7 @@ pub struct Reading {
 }
 
 // The same of one list, with its last number and the largest gap minus 1.
-#[derive(Drop)]
+#[derive(Clone, Copy)]
 struct Step {
     number: u32,
     at: usize,

@@ -20,7 +20,7 @@ pub struct Outcome {
 }
 
 // What a joined list comes to: how many numbers it has, the first of them, and the largest gap minus 1.
-#[derive(Drop)]
+#[derive(Clone, Copy)]
 struct Extent {
     count: usize,
     first: u64,
