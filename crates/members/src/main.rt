@@ -4,7 +4,8 @@
 
 ghost use Rattle.std.specs.Prelude.{◌≤◌, length};
 
-use libc::{STDERR_FILENO, STDIN_FILENO, STDOUT_FILENO};
+use std::io;
+use std::io::{Read, Write};
 
 // How much of the input was read, and whether that is all of it, up to the buffer's length: no read failed.
 #[derive(Drop)]
@@ -14,36 +15,35 @@ struct Reading {
 }
 
 // One read, into the buffer from a place on.
-fn read_at(buf: &mut [u8], n: usize) -> isize {
+fn read_at(rt: &HostRuntime, buf: &mut [u8], n: usize) -> io::Result<usize> {
     if n <= buf.len() {
-        return libc::read(STDIN_FILENO, &mut buf[n..]);
+        return rt.stdin().read(&mut buf[n..]);
     }
-    0
+    Ok(0)
 }
 
 // So many bytes more, which never are more than there is room for.
-fn added(n: usize, got: isize, buf: &[u8]) -> usize
+fn added(n: usize, got: usize, buf: &[u8]) -> usize
     ensures { result ≤ length buf.now }
 {
-    let sum = std::num::wrapping_add_usize(n, io::count(got, buf));
+    let sum = n.wrapping_add(got);
     if sum <= buf.len() { sum } else { buf.len() }
 }
 
 // Reads until the input ends or the buffer is full, in whatever pieces it comes. Each turn reads a byte or more, so there is a turn
 // for each byte of the longest buffer.
-fn read_input(buf: &mut [u8]) -> Reading
+fn read_input(rt: &HostRuntime, buf: &mut [u8]) -> Reading
     ensures { result.count ≤ length buf.new }
 {
     let mut n: usize = 0;
     let mut turns: u32 = 65536;
     while 0 < turns {
-        let got = read_at(buf, n);
-        if got < 0 {
+        let Ok(got) = read_at(rt, buf, n) else {
             return Reading {
                 count: 0,
                 whole: false,
             };
-        }
+        };
         if got == 0 {
             break;
         }
@@ -56,18 +56,22 @@ fn read_input(buf: &mut [u8]) -> Reading
     }
 }
 
-fn main() {
+fn main(rt: HostRuntime) -> io::Result<()> {
     // one byte more than the longest input, so that a longer one is seen to be longer
-    let mut input = io::large_buffer();
-    let reading = read_input(&mut input);
+    let mut input = [0u8; 65536];
+    let reading = read_input(&rt, &mut input);
     if !reading.whole {
-        io::write_all(STDERR_FILENO, b"members: standard input cannot be read\n");
-        return;
+        return rt
+            .stderr()
+            .write_all(b"members: standard input cannot be read\n");
     }
     let n = reading.count;
     let mut text = [0u8; 45073];
     let end = report::report(&input[0..n], &mut text);
-    if !io::write_all(STDOUT_FILENO, &text[..end]) {
-        io::write_all(STDERR_FILENO, b"members: the list cannot be written\n");
+    if rt.stdout().write_all(&text[..end]).is_err() {
+        return rt
+            .stderr()
+            .write_all(b"members: the list cannot be written\n");
     }
+    Ok(())
 }
