@@ -1,6 +1,6 @@
 -- One list: does it ascend, and what is its largest gap minus 1?
 use Rattle.std.specs.Prelude.{List, [], ◌∷◌, ℕ}
-use Rattle.model.specs.Outcome.{Outcome, refused, accepted, ◌>>=◌, ◌>>◌, require}
+use Rattle.model.specs.Outcome.{Outcome, refused, accepted, ◌>>◌, require}
 use Rattle.model.specs.Lists.{ascending}
 use Rattle.model.specs.Delivery.{largest_gap}
 use Rattle.lists.specs.declared.Rise.{Rise}

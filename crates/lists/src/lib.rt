@@ -2,7 +2,6 @@
 // them, and the part of one list.
 #![tactic(auto)]
 
-
 ghost use Rattle.std.specs.Prelude.{◌≡◌, true, ◌&&◌, ◌||◌, ◌∷◌, ◌-◌, ◌≤◌, ◌<◌, eqb, length, get_or};
 ghost use Rattle.model.specs.Outcome.{number_of};
 ghost use Rattle.model.specs.Lists.{ascending, all_ascending, lists_from, count_holds, ends_hold, delivered, word_holds, lend, lists_of, span_of, part_of};
