@@ -9,7 +9,7 @@ use native.Mathlib.Omega.{arith}
 use borrow.Author.Tests.{lt-ltb, le-ltb}
 use Rattle.model.specs.declared.Node.{Node}
 use Rattle.model.specs.declared.Node.TheVariants.{Leaf, Difference, Union, Intersection}
-use Rattle.model.specs.Outcome.{Outcome, refused, accepted, ◌>>=◌, ◌>>◌}
+use Rattle.model.specs.Outcome.{Outcome, refused, accepted, ◌>>=◌}
 use Rattle.model.specs.Expression.{Tree, union, intersection, Members, count}
 use Rattle.model.specs.Forms.{nodes, nodes_all, LeafTest, read_members, operator, read_below, read_tree}
 use Rattle.model.proofs.Accepted.{never_accepted, assoc, Few}
