@@ -14,7 +14,7 @@ use Rattle.model.specs.declared.Node.{Node}
 use Rattle.model.specs.declared.Node.TheVariants.{Leaf, Difference, Union, Intersection}
 use Rattle.model.specs.Outcome.{Outcome, refused, accepted}
 use Rattle.model.specs.Expression.{Tree, leaf, difference, union, intersection, Members, one, more}
-use Rattle.model.specs.Fields.{field, value}
+use Rattle.model.specs.Fields.{field}
 use Rattle.model.specs.Forms.{nodes, nodes_all, row_byte, row, packed_node, packed_nodes, node_of, LeafTest}
 use Rattle.model.specs.Demands.{Named, NamedAll}
 use Rattle.model.proofs.Bits.{field-length, field-value}

@@ -14,7 +14,7 @@ use Rattle.model.specs.Outcome.{Outcome, refused, accepted, ◌>>=◌, ◌>>◌,
 use Rattle.model.specs.Lists.{count_holds}
 use Rattle.model.specs.Expression.{Tree, size}
 use Rattle.model.specs.Fields.{Bytes, field, fill, bytes}
-use Rattle.model.specs.Forms.{nodes, row, packed, LeafTest, there, read_row, read_packed}
+use Rattle.model.specs.Forms.{row, packed, LeafTest, there, read_row, read_packed}
 use Rattle.model.specs.Calls.{written_refused, written, unpack_expression, pack_expression}
 use Rattle.model.proofs.Accepted.{Narrow}
 use Rattle.model.proofs.Bits.{bytes-length}
