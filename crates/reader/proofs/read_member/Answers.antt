@@ -1,5 +1,4 @@
 -- `read_member` meets its contract: up to 31 the byte is a list's, whose reader's step it is. Assumes nothing.
-use borrow.Author.Rules.{rules}
 use borrow.Author.Tests.{le-leb, lt-leb}
 use denote.Enum.Declared.{tag_of}
 use mathlib.Core.Path.{◌≡◌, sym, ap}
@@ -16,8 +15,8 @@ use Rattle.model.specs.Forms.{node_of}
 use Rattle.model.proofs.Accepted.{accepted-same, never_accepted}
 use Rattle.reader.specs.Sought.{Read, Named}
 use Rattle.reader.proofs.Moves.{stays}
-use Rattle.reader.proofs.read_member.Statement.{statement}
-use Rattle.reader.proofs.read_member.Tie as tie
+use Rattle.reader.proofs.read_member.Goals as goal
+use Rattle.reader.proofs.read_member.Goals.{After-read_list-r}
 
 -- "0 to 31 a list"
 a_list : (b : ℕ) → b ≤ 31 → node_of b ≡ accepted (Leaf b)
@@ -39,30 +38,25 @@ no_list b h k e = go (eqb b 64) (leb 129 b && leb b 136) (leb 193 b && leb b 200
     go false false false e = never_accepted e
 
 -- the reader's step over the list that the byte names
-list_read : (q : tie.After-read-list) → let args = q.before.before.before.before.before.args in
-    Named args.numbers.now args.ends.now args.byte (λ l. Read l args.place args.to q.read_list.result)
-list_read q = let args = q.before.before.before.before.before.args in
-    record { list = args.byte; named = a_list args.byte (omega arith); of = rw q.before.wide.ensures at q.read_list.ensures }
+list_read : (q : After-read_list-r) → let args = q.args in
+    Named args.numbers.now args.ends.now args.byte (λ l. Read l args.place args.to q.read_list-r.result)
+list_read q = let args = q.args in
+    record { list = args.byte; named = a_list args.byte (omega arith); of = rw q.wide.ensures at q.read_list-r.ensures }
 
-wide-requires : tie.Need-wide-requires
-wide-requires c κs = search rules
+pub read_list-r-requires : goal.read_list-r-requires
+read_list-r-requires c =
+    record {
+      readable = c.requires.readable;
+      k_in_bounds = (omega (arith, c.wide.ensures, c.requires.by_index.0 c.args.byte (a_list c.args.byte (omega arith))), c.requires.by_index.1);
+    }
 
-read-list-requires : tie.Need-read-list-requires
-read-list-requires c κs =
-    let start = c.before.before.before.before in
-    (start.requires.0, (omega (arith, c.wide.ensures, start.requires.1.0 start.args.byte (a_list start.args.byte (omega arith))), start.requires.1.1))
+pub returns-then-r-eq0 : goal.returns-then-r-eq0
+returns-then-r-eq0 c =
+    let r = list_read (goal.at.returns-then-r-eq0 c).After-read_list-r in
+    record { list = r.list; named = r.named; of = stays _ _ _ _ r.of c.if-r-eq0.true }
 
-returns : tie.Need-returns
-returns c =
-    let r = list_read c.before.before in
-    record { list = r.list; named = r.named; of = stays _ _ _ _ r.of c.if2.true }
+pub returns-else-r-eq0 : goal.returns-else-r-eq0
+returns-else-r-eq0 c = (lt_of_le-ne (omega arith) (λ z. c.if-r-eq0.false (sym z)), list_read (goal.at.returns-else-r-eq0 c).After-read_list-r)
 
-returns-2 : tie.Need-returns-2
-returns-2 c = (lt_of_le-ne (omega arith) (λ z. c.if2.false (sym z)), list_read c.before.before)
-
-returns-3 : tie.Need-returns-3
-returns-3 c = no_list c.before.before.before.args.byte (omega arith)
-
-pub read-member-spec : {M : Type 1} → statement M
-read-member-spec =
-    tie.close (tie.spec wide-requires read-list-requires returns returns-2 returns-3)
+pub returns-in_default : goal.returns-in_default
+returns-in_default c = no_list c.args.byte (omega arith)
