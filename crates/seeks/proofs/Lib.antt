@@ -2,3 +2,4 @@
 pub mod Turns
 pub mod Nodes
 pub mod Stepping
+pub mod Kept

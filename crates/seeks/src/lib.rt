@@ -18,7 +18,7 @@ use model::Node;
 use reader::{MemberRead, Readers, SeekResult};
 
 // The seek of a node, by its kind. Each arm returns at once: what it hands back is then copied only once.
-#[cycle(seek_seek_difference_seek_intersection_seek_union)]
+#[cycle(seeks)]
 pub fn seek(
     numbers: &[u32],
     ends: &[u32],
@@ -64,7 +64,7 @@ pub fn seek(
 
 // "seek the first to E; finished ends it. Seek the second to that answer. If equal, E becomes the answer plus 1 and the step
 // repeats; else the first's answer holds": in the report's order, A3(2)(a), A3(2)(b) and the increment of A2(2).
-#[cycle(seek_seek_difference_seek_intersection_seek_union)]
+#[cycle(seeks)]
 fn seek_difference(
     numbers: &[u32],
     ends: &[u32],
@@ -170,7 +170,7 @@ fn seek_difference(
 }
 
 // "seek every member node to E, in order. The least answer holds; finished if all are": finished is above every number.
-#[cycle(seek_seek_difference_seek_intersection_seek_union)]
+#[cycle(seeks)]
 fn seek_union(
     numbers: &[u32],
     ends: &[u32],
@@ -229,7 +229,7 @@ fn begins_again(candidate: u64, x: u64, first: usize, at: usize) -> bool
 
 // "the candidate is E. Seek member nodes in order to it. Finished anywhere is finished. [..] When the last has answered the
 // candidate, that is the answer".
-#[cycle(seek_seek_difference_seek_intersection_seek_union)]
+#[cycle(seeks)]
 fn seek_intersection(
     numbers: &[u32],
     ends: &[u32],

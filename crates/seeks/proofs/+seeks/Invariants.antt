@@ -1,0 +1,39 @@
+-- The seek of a node calls that of its kind, which calls the seeks of nodes further on: twice the remaining nodes fall, and one more
+-- for the first of these. Difference and intersection repeat at a higher number. Assumes nothing.
+use Rattle.std.proofs.Common.{ℕ, ◌+◌, ◌-◌, ◌*◌}
+use Rattle.model.specs.Lists.{top}
+use Rattle.seeks.proofs.Kept.{Increments, Intersects, Unites}
+use Rattle.seeks.proofs.+seeks.Given as goal
+
+abbrev left_from : ℕ → ℕ
+left_from node = (48 - node) + (48 - node)
+
+abbrev pub decreases-seek : goal.decreases-seek
+decreases-seek l = left_from l.node + 1
+
+abbrev pub decreases-seek_difference : goal.decreases-seek_difference
+decreases-seek_difference l = left_from l.node
+
+abbrev pub decreases-seek_intersection : goal.decreases-seek_intersection
+decreases-seek_intersection l = left_from l.node
+
+abbrev pub decreases-seek_union : goal.decreases-seek_union
+decreases-seek_union l = left_from l.node
+
+abbrev pub invariant-seek_difference-loop-y : goal.invariant-seek_difference-loop-y
+invariant-seek_difference-loop-y l = Increments l.numbers l.ends l.nodes l.node l.initial.readers l.initial.x l.initial.y l.readers l.x l.y
+
+abbrev pub decreases-seek_difference-loop-y : goal.decreases-seek_difference-loop-y
+decreases-seek_difference-loop-y l = top - l.x
+
+abbrev pub invariant-seek_intersection-loop-left : goal.invariant-seek_intersection-loop-left
+invariant-seek_intersection-loop-left l = Intersects l.numbers l.ends l.nodes l.node l.count l.from l.first l.initial.readers l.readers l.candidate l.at l.left
+
+abbrev pub decreases-seek_intersection-loop-left : goal.decreases-seek_intersection-loop-left
+decreases-seek_intersection-loop-left l = (top - l.candidate) * 256 + l.left
+
+abbrev pub invariant-seek_union-loop-left : goal.invariant-seek_union-loop-left
+invariant-seek_union-loop-left l = Unites l.numbers l.ends l.nodes l.node l.to l.initial.readers l.readers l.least l.at l.left
+
+abbrev pub decreases-seek_union-loop-left : goal.decreases-seek_union-loop-left
+decreases-seek_union-loop-left l = l.left
