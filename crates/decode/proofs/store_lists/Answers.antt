@@ -2,14 +2,12 @@
 -- laying them and their ends from here on is laying all of them from the start. That they read is required, so positions
 -- and ends stay small. The measure is how many are left. Assumes nothing.
 use mathlib.Core.Path.{◌≡◌, refl, sym, ap, ap₂, ◌∙◌, subst}
-use mathlib.Core.List.{List, [], ◌∷◌, map}
+use mathlib.Core.List.{List, [], ◌∷◌}
 use mathlib.Core.Option.{some}
-use Prim.Native.Nat.{ℕ, ◌+◌, ◌-◌, ◌*◌, ◌≤◌, ◌<◌}
+use Prim.Native.Nat.{ℕ, ◌+◌, ◌-◌, ◌≤◌, ◌<◌}
 use native.Mathlib.Omega.{arith}
-use borrow.Author.Rules.{rules}
 use borrow.Author.Tests.{leb-true}
 use lib.ListN.{length, set, length-set}
-use Rattle.model.specs.Outcome.{accepted}
 use Rattle.model.specs.Sets.{all_numbers}
 use Rattle.model.specs.Delivery.{Supplied, supplied_numbers, by_bit}
 use Rattle.model.specs.Calls.{ends_from}
@@ -22,22 +20,9 @@ use Rattle.decode.specs.declared.Stored.{Stored}
 use Rattle.decode.specs.Stores.{ListStored}
 use Rattle.walk.proofs.Counting.{lists-none, lists_first}
 use Rattle.walk.proofs.Bounds.{list_next, by_bit_ahead}
-use Rattle.decode.proofs.store_lists.Statement.{statement}
-use Rattle.decode.proofs.store_lists.Tie as tie
-
--- the numbers of lists, and where each list ends that starts behind `from`
-abbrev numbers_of : List Supplied → List ℕ
-numbers_of ss = all_numbers (map supplied_numbers ss)
-
-abbrev ends_of : ℕ → List Supplied → List ℕ
-ends_of from ss = ends_from from (map supplied_numbers ss)
-
--- what is left to store, of lists that are to stand at the start of both rows
-record Left (s : List ℕ) (n next : ℕ) (numbers : List ℕ) (from : ℕ) (ends : List ℕ) (k : ℕ) (all_Laid ends_laid : List ℕ) (q : ℕ) : Type 0 where
-  rest : List Supplied
-  read : read_lists (take_at s) n (length numbers - from) next ≡ accepted (rest, q)
-  all_are : all_Laid ≡ lay numbers from (numbers_of rest)
-  ends_are : ends_laid ≡ lay ends k (ends_of from rest)
+use Rattle.decode.proofs.store_lists.Goals as goal
+use Rattle.decode.proofs.store_lists.Invariants.{numbers_of, ends_of, Left}
+use Rattle.decode.proofs.store_lists.Goals.{After-store_list-stored, At-loop-k}
 
 -- where one list has been stored
 record Moved (next : ℕ) (numbers : List ℕ) (from : ℕ) (after : List ℕ) (r : Stored) : Type 0 where
@@ -78,34 +63,21 @@ module _ (s : List ℕ) (n next : ℕ) (numbers : List ℕ) (from : ℕ) (ends :
             ∙ lay-cons ends k r.end (ends_of r.end f.rest) h;
       }
 
-abbrev invariant-loop : tie.invariant-loop
-invariant-loop s at n numbers₀ ends₀ lists next₀ from₀ k₀ numbers ends next from k =
-    (k ≤ lists) × (from ≤ length numbers) × (from ≤ 65535 * k) × (next + 4194304 * (lists - k) ≤ 6 + 4194304 * lists) × (length numbers ≡ length numbers₀) × (length ends ≡ length ends₀)
-    × ((ss : List Supplied) (q : ℕ) → read_lists (take_at s) n (length numbers₀) at ≡ accepted (ss, q)
-    → Left s (lists - k) next numbers from ends k (lay numbers₀ 0 (numbers_of ss)) (lay ends₀ 0 (ends_of 0 ss)) q)
-
-abbrev decreases-loop : tie.decreases-loop
-decreases-loop s at n numbers₀ ends₀ lists next₀ from₀ k₀ numbers ends next from k = lists - k
-
 -- the lists that are required to read
-pre_left : (c : tie.At-loop invariant-loop decreases-loop) → let l = c.loop in let args = c.before.before.before.before.before.args in let pre = c.before.before.before.before.before.requires.3 in
-    Left args.s.now (c.before.wide.result - l.k) l.next l.numbers l.from l.ends l.k (lay args.numbers.now 0 (numbers_of pre.lists)) (lay args.ends.now 0 (ends_of 0 pre.lists)) pre.next
-pre_left c = let pre = c.before.before.before.before.before.requires.3 in c.loop.invariant.6 pre.lists pre.next pre.read
+pre_left : (c : At-loop-k) → let l = c.loop-k in let args = c.args in let pre = c.requires.3 in
+    Left args.s.now (c.wide-lists.result - l.k) l.next l.numbers l.from l.ends l.k (lay args.numbers.now 0 (numbers_of pre.lists)) (lay args.ends.now 0 (ends_of 0 pre.lists)) pre.next
+pre_left c = let pre = c.requires.3 in c.loop-k.invariant.6 pre.lists pre.next pre.read
 
 -- where the list of this turn has been stored
-this_moved : (c : tie.After-store-list invariant-loop decreases-loop) → let l = c.before.before.before.loop in Moved l.next l.numbers l.from c.store-list.new.1.1.0 c.store-list.result
+this_moved : (c : After-store_list-stored) → let l = c.loop-k in Moved l.next l.numbers l.from c.store_list-stored.new.numbers c.store_list-stored.result
 this_moved c =
-    let at = c.before.before.before in
-    let l = at.loop in
-    moved _ _ l.next l.numbers l.from l.ends l.k _ _ _ _ _ (omega arith) l.invariant.1 c.store-list.ensures (pre_left at)
+    let l = c.loop-k in
+    moved _ _ l.next l.numbers l.from l.ends l.k _ _ _ _ _ (omega arith) l.invariant.1 c.store_list-stored.ensures (pre_left (record { before = c.before.before.before.before; type_inv = record { s = c.type_inv.s } }))
 
-wide-requires : tie.Need-wide-requires invariant-loop decreases-loop
-wide-requires c κs = search rules
-
-loop-holds : tie.Need-loop-init invariant-loop decreases-loop
-loop-holds c =
-    let args = c.before.before.before.before.args in
-    let all : c.wide.result - 0 ≡ args.n = omega arith in
+pub loop-k-init : goal.loop-k-init
+loop-k-init c =
+    let args = c.args in
+    let all : c.wide-lists.result - 0 ≡ args.n = omega arith in
     let room : length args.numbers.now - 0 ≡ length args.numbers.now = omega arith in (
       omega arith,
       omega arith,
@@ -116,34 +88,17 @@ loop-holds c =
       λ ss q e. record { rest = ss; read = ap₂ (λ (m r : ℕ). read_lists (take_at args.s.now) m r args.at) all room ∙ e; all_are = refl; ends_are = refl },
     )
 
-store-list-requires : tie.Need-store-list-requires invariant-loop decreases-loop
-store-list-requires c κs = search rules
+pub overflow_cast-ends : goal.overflow_cast-ends
+overflow_cast-ends c = omega (arith, (this_moved (goal.at.overflow_cast-ends c).After-store_list-stored).few)
 
-cast_ends : tie.Need-overflow-cast-ends invariant-loop decreases-loop
-cast_ends c = omega (arith, (this_moved c.before.before).few)
-
-mul-ends : tie.Need-overflow-mul-ends invariant-loop decreases-loop
-mul-ends c = search rules
-
-slice-write-ends : tie.Need-slice-write-ends invariant-loop decreases-loop
-slice-write-ends c = search rules
-
-add-k : tie.Need-overflow-add-k invariant-loop decreases-loop
-add-k c = search rules
-
-loop-less : tie.Need-loop-smaller invariant-loop decreases-loop
-loop-less c = search rules
-
-loop-again : tie.Need-loop-preserved invariant-loop decreases-loop
-loop-again c =
-    let st = c.before.before in
-    let at = st.before.before.before in
-    let l = at.loop in
-    let args = at.before.before.before.before.before.args in
-    let lists : ℕ = at.before.wide.result in
-    let m = this_moved st in
-    let r = st.store-list.result in
-    let after : List ℕ = st.store-list.new.1.1.0 in
+pub loop-k-preserved : goal.loop-k-preserved
+loop-k-preserved c =
+    let l = c.loop-k in
+    let args = c.args in
+    let lists : ℕ = c.wide-lists.result in
+    let m = this_moved (goal.at.loop-k-preserved c).After-store_list-stored in
+    let r = c.store_list-stored.result in
+    let after : List ℕ = c.store_list-stored.new.numbers in
     let less : lists - l.k - 1 ≡ lists - (l.k + 1) = omega arith in (
       omega arith,
       omega (arith, m.inside, m.long),
@@ -153,20 +108,14 @@ loop-again c =
       length-set l.ends l.k _ ∙ l.invariant.5,
       λ ss q e.
           subst (λ (n : ℕ). Left args.s.now n r.next after r.end (set l.ends l.k r.end) (l.k + 1) (lay args.numbers.now 0 (numbers_of ss)) (lay args.ends.now 0 (ends_of 0 ss)) q) less
-          (turn args.s.now (lists - l.k) l.next l.numbers l.from l.ends l.k _ _ q after r (omega arith) l.invariant.1 st.store-list.ensures (l.invariant.6 ss q e) (omega arith)),
+          (turn args.s.now (lists - l.k) l.next l.numbers l.from l.ends l.k _ _ q after r (omega arith) l.invariant.1 c.store_list-stored.ensures (l.invariant.6 ss q e) (omega arith)),
     )
 
-same_length : tie.Need-same-length invariant-loop decreases-loop
-same_length c = search rules
-
-same-length-2 : tie.Need-same-length-2 invariant-loop decreases-loop
-same-length-2 c = search rules
-
-returns : tie.Need-returns invariant-loop decreases-loop
+pub returns : goal.returns
 unfolding all_numbers ends_from
 returns c ss q e =
-    let l = c.before.loop in
-    let args = c.before.before.before.before.before.before.args in
+    let l = c.loop-k in
+    let args = c.args in
     let left = l.invariant.6 ss q e in
     let none : ◌≡◌ {A = List Supplied × ℕ} ([], l.next) (left.rest, q) =
     accepted-same (sym (lists-none by_bit (take_at args.s.now) _ _ l.next (omega arith)) ∙ left.read) in
@@ -174,22 +123,3 @@ returns c ss q e =
       sym (left.all_are ∙ ap (λ (r : List Supplied). lay l.numbers l.from (numbers_of r)) empty ∙ lay-nil l.numbers l.from),
       sym (left.ends_are ∙ ap (λ (r : List Supplied). lay l.ends l.k (ends_of l.from r)) empty ∙ lay-nil l.ends l.k),
     )
-
-pub store-lists-spec : {M : Type 1} → statement M
-store-lists-spec =
-    tie.close
-    (tie.spec
-    invariant-loop
-    decreases-loop
-    wide-requires
-    loop-holds
-    store-list-requires
-    cast_ends
-    mul-ends
-    slice-write-ends
-    add-k
-    loop-less
-    loop-again
-    same_length
-    same-length-2
-    returns)
