@@ -6,7 +6,6 @@ use changed::Outcome;
 use compare::totals::Totals;
 use compare::{Verdict, totals};
 use joined::Stored;
-use regrouped::packed;
 
 // What came out differently, by the number that `compare` gives it.
 fn what(differs: u32) {
@@ -28,10 +27,6 @@ fn what(differs: u32) {
         16 => text::put(b"the bytes"),
         17 => text::put(b"the join the other way round"),
         18 => text::put(b"the join with itself"),
-        19 => text::put(b"the regrouped expression's stored forms"),
-        20 => text::put(b"the regrouped expression's number"),
-        21 => text::put(b"the regrouped expression's replies"),
-        22 => text::put(b"the regrouped expression's bookmark"),
         _ => text::put(b"the program's list"),
     }
 }
@@ -189,41 +184,6 @@ fn sum_joins(count: u64) -> Totals {
     t
 }
 
-// A case of an expression and its regrouping, whole.
-fn show_regrouping(case: u64, differs: u32) {
-    text::with(b"case ", case);
-    text::put(b" differs in ");
-    what(differs);
-    let pair = regrouped::pair_of(case);
-    let l = pair.lists;
-    show_lists(l);
-    show_packed(packed(pair.row, l).expression);
-    text::put(b", regrouped");
-    show_packed(packed(pair.other.row, l).expression);
-    text::with(b", bookmark ", pair.begin.bookmark);
-    show_calls(cases::calls(case, l));
-    text::end();
-}
-
-fn regroup(case: u64) -> regrouped::Outcome {
-    let o = regrouped::regroup_case(case);
-    if o.verdict.differs != 0 {
-        show_regrouping(case, o.verdict.differs);
-    }
-    o
-}
-
-// The regroupings of the cases 0 to `count`, that one excluded.
-fn sum_regroupings(count: u64) -> regrouped::totals::Totals {
-    let mut t = regrouped::totals::none();
-    let mut case: u64 = 0;
-    while case < count {
-        t = regrouped::totals::with_case(t, regroup(case));
-        case += 1;
-    }
-    t
-}
-
 fn item(n: u64, name: &[u8]) {
     text::put(b", ");
     text::number(n);
@@ -257,8 +217,9 @@ fn by_number(n: usize, count: u64) {
     text::put(b" times");
 }
 
-// What runs came to.
-fn print_runs(t: Totals) {
+fn print(name: &[u8], count: u64, damaged: bool) {
+    let t = sum(count, damaged);
+    head(name, count, t.differ);
     item(t.members, b" members");
     item(t.finished, b" finished");
     item(t.yes, b" yes");
@@ -269,12 +230,6 @@ fn print_runs(t: Totals) {
     let numbers = t.numbers;
     print_numbers(numbers);
     text::end();
-}
-
-fn print(name: &[u8], count: u64, damaged: bool) {
-    let t = sum(count, damaged);
-    head(name, count, t.differ);
-    print_runs(t);
 }
 
 fn print_updates(count: u64) {
@@ -296,29 +251,9 @@ fn print_joins(count: u64) {
     text::end();
 }
 
-// How often expressions were regrouped by each kind, and what the regrouped ones came to.
-fn print_regroupings(count: u64) {
-    let t = sum_regroupings(count);
-    let runs = t.runs;
-    head(b"regroupings, ", count, runs.differ);
-    item(t.others, b" other rows");
-    let kinds = t.kinds;
-    item(kinds[0], b" members exchanged");
-    item(kinds[1], b" opened out");
-    item(kinds[2], b" closed in");
-    item(kinds[3], b" differences divided");
-    item(kinds[4], b" differences gathered");
-    item(kinds[5], b" distributed");
-    item(t.full, b" of 48 nodes");
-    item(t.wide, b" with an operator of eight");
-    item(t.moved, b" with other moves");
-    print_runs(runs);
-}
-
 pub fn all() {
     print(b"generated, ", 100000, false);
     print(b"damaged, ", 50000, true);
     print_updates(50000);
     print_joins(50000);
-    print_regroupings(50000);
 }
