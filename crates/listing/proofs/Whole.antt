@@ -11,7 +11,7 @@ use lib.ListN.{length, get_or, take, drop, replicate, length-take, length-drop, 
 use lib.Seq.{take_all}
 use Rattle.model.specs.declared.DecodeResult.{DecodeResult}
 use Rattle.model.specs.declared.Reply.{Reply}
-use Rattle.model.specs.Outcome.{Outcome, refused, accepted, ◌>>=◌, ◌>>◌, number_of, Success, Sent, over, sent}
+use Rattle.model.specs.Outcome.{Outcome, refused, accepted, ◌>>=◌, number_of, Success, Sent, over, sent}
 use Rattle.model.specs.Lists.{Numbers, lists_from, lend, lists_of}
 use Rattle.model.specs.Expression.{Tree}
 use Rattle.model.specs.Sets.{all_numbers, members}
