@@ -4,7 +4,7 @@ use Prim.Native.Nat.{ℕ}
 use native.Mathlib.Omega.{arith}
 use lib.ListN.{get_or}
 use Rattle.model.specs.Bounds.{lengths_from}
-use Rattle.bounds.proofs.Turns.{fed-leaf, fed-some}
+use Rattle.bounds.proofs.Turns.{fed-leaf}
 use Rattle.bounds.proofs.bound_of.Goals as goal
 
 pub list_length-requires : goal.list_length-requires
@@ -14,18 +14,9 @@ list_length-requires c =
 pub bounds-parts-0 : goal.bounds-parts-0
 bounds-parts-0 c = omega (arith, rw c.in-Difference.is at c.requires.parts_len.0)
 
-pub least_of-requires : goal.least_of-requires
-least_of-requires c = omega (arith, c.requires.parts_len.0, fed-some _ _ _ c.requires.parts_len.1 _ c.in-Intersection.is)
-
 pub returns-in-Leaf : goal.returns-in-Leaf
 returns-in-Leaf c =
     rw c.in-Leaf.is (c.list_length.ensures ∙ ap (λ (k : ℕ). get_or (lengths_from 0 c.args.ends.now) k 0) c.wide.ensures)
 
 pub returns-in-Difference : goal.returns-in-Difference
 returns-in-Difference c = rw c.in-Difference.is
-
-pub returns-in-Union : goal.returns-in-Union
-returns-in-Union c = rw c.in-Union.is c.sum_of.ensures
-
-pub returns-in-Intersection : goal.returns-in-Intersection
-returns-in-Intersection c = rw c.in-Intersection.is c.least_of.ensures
