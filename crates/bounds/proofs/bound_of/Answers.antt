@@ -4,29 +4,19 @@ use Prim.Native.Nat.{ℕ}
 use native.Mathlib.Omega.{arith}
 use lib.ListN.{get_or}
 use Rattle.model.specs.Bounds.{lengths_from}
-use Rattle.bounds.proofs.Turns.{fed-leaf, fed-some}
-use borrow.Author.Rules.{rules}
+use Rattle.bounds.proofs.Turns.{fed-leaf}
 use Rattle.bounds.proofs.bound_of.Goals as goal
 
 pub list_length-requires : goal.list_length-requires
 list_length-requires c =
-    (c.requires.0.0, rw c.wide.ensures (fed-leaf _ _ _ c.requires.1.1 _ c.node-1.given.1))
+    (c.requires.ends_value.0, rw c.wide.ensures (fed-leaf _ _ _ c.requires.parts_len.1 _ c.in-Leaf.is))
 
 pub bounds-parts-0 : goal.bounds-parts-0
-bounds-parts-0 c = omega (arith, rw c.enum_told-1.given.1 at c.requires.1.0)
-
-pub least_of-requires : goal.least_of-requires
-least_of-requires c = omega (arith, c.requires.1.0, fed-some _ _ _ c.requires.1.1 _ c.enum_told-in-Intersection-1.given.1)
+bounds-parts-0 c = omega (arith, rw c.in-Difference.is at c.requires.parts_len.0)
 
 pub returns-in-Leaf : goal.returns-in-Leaf
 returns-in-Leaf c =
-    rw c.node-1.given.1 (c.list_length.ensures ∙ ap (λ (k : ℕ). get_or (lengths_from 0 c.args.ends.now) k 0) c.wide.ensures)
+    rw c.in-Leaf.is (c.list_length.ensures ∙ ap (λ (k : ℕ). get_or (lengths_from 0 c.args.ends.now) k 0) c.wide.ensures)
 
 pub returns-in-Difference : goal.returns-in-Difference
-returns-in-Difference c = rw c.enum_told-1.given.1
-
-pub returns-in-Union : goal.returns-in-Union
-returns-in-Union c = rw c.enum_told-in-Union-1.given.1 c.sum_of.ensures
-
-pub returns-in-Intersection : goal.returns-in-Intersection
-returns-in-Intersection c = rw c.enum_told-in-Intersection-1.given.1 c.least_of.ensures
+returns-in-Difference c = rw c.in-Difference.is

@@ -2,10 +2,9 @@
 -- Assumes nothing.
 use mathlib.Core.Path.{◌≡◌, sym, ap, ◌∙◌}
 use mathlib.Core.List.{List}
-use Prim.Native.Nat.{ℕ, ◌+◌, ◌-◌, ◌≤◌}
+use Prim.Native.Nat.{ℕ, ◌+◌, ◌≤◌}
 use native.Mathlib.Omega.{arith}
-use borrow.Author.Rules.{rules}
-use lib.ListN.{length, get_or, drop}
+use lib.ListN.{get_or, drop}
 use Rattle.model.specs.Delivery.{list_size}
 use Rattle.model.specs.Bounds.{lengths_from, most_bits, most_bytes}
 use Rattle.capacity.proofs.Lengths.{rises_at, length_at, lengths-many, lengths-few}
@@ -29,20 +28,20 @@ length_of-requires c = (omega arith, (rises_at 0 c.args.ends.now c.requires.0 c.
 size : (c : After-length_of) → c.length_of.result ≡ get_or (lengths_from 0 c.args.ends.now) c.loop-k.k 0
 size c = c.length_of.ensures ∙ sym (length_at 0 c.args.ends.now c.loop-k.k (omega arith))
 
-left : (c : After-bits_of-bits) → let ns = lengths_from 0 c.args.ends.now in
+left : (c : After-bits_of-bits) → c.length_of.result ≡ get_or (lengths_from 0 c.args.ends.now) c.loop-k.k 0 → let ns = lengths_from 0 c.args.ends.now in
     most_bits (drop c.loop-k.k ns) ≡ c.bits_of-bits.result + most_bits (drop (c.loop-k.k + 1) ns)
-left c =
+left c long =
     let ends : List ℕ = c.args.ends.now in
-    omega (arith, c.bits_of-bits.ensures, ap (λ (n : ℕ). list_size 17 n 32) (size c.before), bits_left (lengths_from 0 ends) c.loop-k.k (omega (arith, lengths-many 0 ends)))
+    omega (arith, c.bits_of-bits.ensures, ap (λ (n : ℕ). list_size 17 n 32) long, bits_left (lengths_from 0 ends) c.loop-k.k (omega (arith, lengths-many 0 ends)))
 
 pub bits_of-bits-requires : goal.bits_of-bits-requires
 bits_of-bits-requires c = (omega (arith, size c, few (goal.at.bits_of-bits-requires c).At-loop-k c.loop-k.k), omega arith)
 
 pub overflow_add-bits : goal.overflow_add-bits
-overflow_add-bits c = omega (arith, left c, within (goal.at.overflow_add-bits c).At-loop-k, c.loop-k.invariant.1)
+overflow_add-bits c = omega (arith, left (goal.at.overflow_add-bits c).After-bits_of-bits (size (goal.at.overflow_add-bits c).After-length_of), within (goal.at.overflow_add-bits c).At-loop-k, c.loop-k.invariant.1)
 
 pub loop-k-preserved : goal.loop-k-preserved
-loop-k-preserved c = (omega arith, omega (arith, left c, c.loop-k.invariant.1))
+loop-k-preserved c = (omega arith, omega (arith, left (goal.at.loop-k-preserved c).After-bits_of-bits (size (goal.at.loop-k-preserved c).After-length_of), c.loop-k.invariant.1))
 
 -- all of them
 all : (c : After-loop-k) → c.loop-k.bits ≡ 6 + most_bits (lengths_from 0 c.args.ends.now)

@@ -1,10 +1,9 @@
 -- `most_moves` meets its contract: what is summed up and the leaves that are left come to all leaves. The measure is how many nodes are
 -- left. Assumes nothing.
 use mathlib.Core.Path.{◌≡◌, sym, ◌∙◌}
-use Prim.Native.Nat.{ℕ, ◌+◌, ◌-◌, ◌≤◌}
+use Prim.Native.Nat.{ℕ, ◌+◌, ◌≤◌}
 use native.Mathlib.Omega.{arith}
-use borrow.Author.Rules.{rules}
-use lib.ListN.{length, get_or, drop}
+use lib.ListN.{get_or, drop}
 use Rattle.model.specs.Bounds.{lengths_from}
 use Rattle.capacity.proofs.Lengths.{lengths-many, lengths-few}
 use Rattle.bounds.specs.Backwards.{leaf_lengths}
@@ -17,31 +16,32 @@ pub loop-i-init : goal.loop-i-init
 loop-i-init c = (omega arith, omega arith)
 
 few : (c : At-loop-i) → (k : ℕ) → get_or (lengths_from 0 c.args.ends.now) k 0 ≤ 65535
-few c = lengths-few 0 c.args.ends.now c.requires.0.0
+few c = lengths-few 0 c.args.ends.now c.requires.ends_value.0
 
 -- the node of this turn
 here : (c : After-known) → Turn (lengths_from 0 c.args.ends.now) c.args.nodes.now c.loop-i.i
-here c = turn (lengths_from 0 c.args.ends.now) c.args.nodes.now c.loop-i.i c.requires.1 (omega arith)
+here c = turn (lengths_from 0 c.args.ends.now) c.args.nodes.now c.loop-i.i c.requires.whole (omega arith)
 
 -- its length, in front of those that are left
-left : (c : After-leaf_length-moves) → leaf_lengths (lengths_from 0 c.args.ends.now) (drop c.loop-i.i c.args.nodes.now) ≡ c.leaf_length-moves.result + leaf_lengths (lengths_from 0 c.args.ends.now) (drop (c.loop-i.i + 1) c.args.nodes.now)
-left c =
-    let h = here c.before in
-    rw (c.leaf_length-moves.ensures, c.known.ensures h.node h.is) h.leaves
+left : (c : After-leaf_length-moves) → Turn (lengths_from 0 c.args.ends.now) c.args.nodes.now c.loop-i.i → leaf_lengths (lengths_from 0 c.args.ends.now) (drop c.loop-i.i c.args.nodes.now) ≡ c.leaf_length-moves.result + leaf_lengths (lengths_from 0 c.args.ends.now) (drop (c.loop-i.i + 1) c.args.nodes.now)
+left c h = rw (c.leaf_length-moves.ensures, c.known.ensures h.node h.is) h.leaves
 
 within : (c : At-loop-i) → leaf_lengths (lengths_from 0 c.args.ends.now) c.args.nodes.now ≤ 3145680
-within c = omega (arith, leaves-within (lengths_from 0 c.args.ends.now) (few c) c.args.nodes.now, c.requires.0.1)
+within c = omega (arith, leaves-within (lengths_from 0 c.args.ends.now) (few c) c.args.nodes.now, c.requires.ends_value.1)
 
 pub leaf_length-moves-requires : goal.leaf_length-moves-requires
 leaf_length-moves-requires c =
-    let h = here c in
-    (c.requires.0.0, λ k e. omega (arith, fed-leaf _ _ h.node h.fed k (sym (c.known.ensures h.node h.is) ∙ e), lengths-many 0 c.args.ends.now))
+    let h = here (goal.at.leaf_length-moves-requires c).After-known in
+    record {
+      ends_value = c.requires.ends_value.0;
+      by_index = λ k e. omega (arith, fed-leaf _ _ h.node h.fed k (sym (c.known.ensures h.node h.is) ∙ e), lengths-many 0 c.args.ends.now);
+    }
 
 pub overflow_add-moves : goal.overflow_add-moves
-overflow_add-moves c = omega (arith, left c, within (goal.at.overflow_add-moves c).At-loop-i, c.loop-i.invariant.1)
+overflow_add-moves c = omega (arith, left (goal.at.overflow_add-moves c).After-leaf_length-moves (here (goal.at.overflow_add-moves c).After-known), within (goal.at.overflow_add-moves c).At-loop-i, c.loop-i.invariant.1)
 
 pub loop-i-preserved : goal.loop-i-preserved
-loop-i-preserved c = (omega arith, omega (arith, left c, c.loop-i.invariant.1))
+loop-i-preserved c = (omega arith, omega (arith, left (goal.at.loop-i-preserved c).After-leaf_length-moves (here (goal.at.loop-i-preserved c).After-known), c.loop-i.invariant.1))
 
 pub returns : goal.returns
 returns c = omega (arith, c.loop-i.invariant.1, leaves-end (lengths_from 0 c.args.ends.now) c.args.nodes.now c.loop-i.i (omega arith))

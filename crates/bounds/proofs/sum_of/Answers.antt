@@ -1,10 +1,5 @@
 -- `sum_of` meets its contract: what is summed up and what is left come to the whole. The measure is how much is left. Assumes nothing.
-use mathlib.Core.Path.{◌≡◌}
-use Prim.Native.Nat.{◌+◌, ◌-◌, ◌≤◌}
 use native.Mathlib.Omega.{arith}
-use borrow.Author.Rules.{rules}
-use lib.ListN.{length, drop}
-use Rattle.model.specs.Demands.{sum}
 use Rattle.bounds.proofs.Sums.{sum_left, sum-end}
 use Rattle.bounds.proofs.sum_of.Goals as goal
 
