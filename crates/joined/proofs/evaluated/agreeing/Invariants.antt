@@ -1,6 +1,5 @@
 -- `agreeing` is safe and ends. The measure is how many bytes are left. Assumes nothing.
-use Prim.Native.Nat.{◌-◌, ◌≤◌}
-use lib.ListN.{length}
+use Rattle.std.proofs.Common.{◌-◌, ◌≤◌, length}
 use Rattle.joined.proofs.evaluated.agreeing.Given as goal
 
 abbrev pub invariant-loop-i : goal.invariant-loop-i
