@@ -2,7 +2,7 @@
  * Zwailmoor, a list set engine: up to 32 ascending lists of numbers, combined by union, intersection and difference,
  * whose members are drawn in order and can be taken up again at a bookmark.
  *
- * Link target/staticlib/libzwailmoor.a (x86-64 Linux), which `rt staticlib zwailmoor` proves and writes. It needs memcpy and
+ * Link crates/zwailmoor/out/libzwailmoor.a (x86-64 Linux), which `rt lib` in crates/zwailmoor proves and writes. It needs memcpy and
  * memset of the C library, and nothing else. examples/console.c shows the calls at work.
  *
  * Rows. A row is an array that the caller lends for one call: a pointer, and behind it the number of elements (not of bytes).

@@ -15,7 +15,7 @@ fn main() {
     println!("cargo:rerun-if-changed={}", archive.display());
     if !archive.is_file() {
         eprintln!(
-            "{} is not there: run `rt staticlib zwailmoor` first, or set {FOLDER_VARIABLE} to the folder of {ARCHIVE}.",
+            "{} is not there: run `rt lib` in crates/zwailmoor first, or set {FOLDER_VARIABLE} to the folder of {ARCHIVE}.",
             archive.display()
         );
         exit(1);
@@ -33,7 +33,7 @@ fn folder() -> PathBuf {
         Some(folder) => PathBuf::from(folder),
         None => {
             let package = env::var_os("CARGO_MANIFEST_DIR").expect("cargo names the package's folder");
-            PathBuf::from(package).join("../target/staticlib")
+            PathBuf::from(package).join("../crates/zwailmoor/out")
         }
     }
 }

@@ -15,7 +15,7 @@ pub loop-i-init : goal.loop-i-init
 unfolding copied
 loop-i-init c =
     let args = c.args in
-    (omega arith, refl, sym (put-nil args.to.now (8 * args.first) (λ i. (c.slice_known-1.given i).fits)))
+    (omega arith, refl, sym (put-nil args.to.now (8 * args.first) (λ i. (c.type_inv.to i).fits)))
 
 pub loop-i-preserved : goal.loop-i-preserved
 unfolding copied
@@ -30,7 +30,7 @@ loop-i-preserved c =
     let off : 8 - args.at % 8 ≡ 8 - q % 8 = omega arith in
     let is : c.middle.result ≡ value (take 8 (drop q (bits from))) =
     c.middle.ensures ∙ ap₂ (λ (k m : ℕ). (get_or from k 0 * 256 + get_or from (k + 1) 0) / 2 ^ m % 256) byte off
-    ∙ eight from q (λ i. (c.shared_slice_known-1.given i).fits) (omega arith) in
+    ∙ eight from q (λ i. (c.type_inv.from i).fits) (omega arith) in
     let here : 8 * j ≡ 8 * args.first + 8 * l.i = omega arith in
     let more : 8 * l.i + 8 ≡ 8 * (l.i + 1) = omega arith in
     let bytes : Bytes l.to = subst Bytes (sym l.invariant.2) (put_small to (8 * args.first) (take (8 * l.i) (drop args.at (bits from)))) in (

@@ -35,7 +35,7 @@ pub loop-k-init : goal.loop-k-init
 loop-k-init c =
     let args = c.args in
     let all : args.n - 0 ≡ args.n = omega arith in
-    (omega arith, refl, λ i. (c.slice_known-1.given i).fits, rw all c.requires.2, rw all refl, rw all refl)
+    (omega arith, refl, λ i. (c.type_inv.to i).fits, rw all c.requires.2, rw all refl, rw all refl)
 
 pub copy_list-put-requires : goal.copy_list-put-requires
 copy_list-put-requires c =

@@ -47,13 +47,13 @@ asked c = ap (λ (k : ℕ). pieces c.args.bit (bits c.args.from.now) k c.args.st
 pub returns-then-missing-ne0 : goal.returns-then-missing-ne0
 unfolding store_pieces sent
 returns-then-missing-ne0 c =
-    handed c.args.to.now c.refused.ensures ∙ rw (ne_eqb c.args.missing 0 (λ z. omega (arith, c.if-missing-ne0.true)))
+    handed c.args.to.now {n = 19} (cc) ∙ rw (ne_eqb c.args.missing 0 (λ z. omega arith))
 
 pub returns-then-to-count : goal.returns-then-to-count
 unfolding store_pieces stored sent
 returns-then-to-count c =
-    let short : length c.args.to.now < length (all (goal.at.returns-then-to-count c).Start) = omega (arith, count_is (goal.at.returns-then-to-count c).Start, c.if-to-count.true) in
-    handed c.args.to.now c.refused-then-to-count.ensures ∙ rw (eq-eqb c.args.missing 0 (omega (arith, c.if-missing-ne0.false)), lt-leb (length (all (goal.at.returns-then-to-count c).Start)) (length c.args.to.now) short)
+    let short : length c.args.to.now < length (all (goal.at.returns-then-to-count c).Start) = omega (arith, count_is (goal.at.returns-then-to-count c).Start) in
+    handed c.args.to.now {n = 6} (cc) ∙ rw (eq-eqb c.args.missing 0 (omega arith), lt-leb (length (all (goal.at.returns-then-to-count c).Start)) (length c.args.to.now) short)
 
 pub copy_lists-put-requires : goal.copy_lists-put-requires
 copy_lists-put-requires c =

@@ -68,7 +68,7 @@ found c = let args = c.args in surveyed args.word (lists_from args.numbers.now 0
 few : (c : Else-m-ne0) → c.survey-m.result.bits ≤ 134217728
 few c =
     let args = c.args in
-    omega (arith, (found c).bits, (counts _ (seven (record { before = c.before.before.before.before.before.before; type_inv = record { bytes = c.type_inv.bytes; ends = c.type_inv.ends; numbers = c.type_inv.numbers } }))).1, lists-small args.word 0 args.numbers.now 0 args.ends.now (λ i. (c.shared_slice_known-1.given i).fits) (hold (record { before = c.before.before.before.before; type_inv = record { bytes = c.type_inv.bytes; ends = c.type_inv.ends; numbers = c.type_inv.numbers } })))
+    omega (arith, (found c).bits, (counts _ (seven (record { before = c.before.before.before.before.before.before; type_inv = record { bytes = c.type_inv.bytes; ends = c.type_inv.ends; numbers = c.type_inv.numbers } }))).1, lists-small args.word 0 args.numbers.now 0 args.ends.now (λ i. (c.type_inv.numbers i).fits) (hold (record { before = c.before.before.before.before; type_inv = record { bytes = c.type_inv.bytes; ends = c.type_inv.ends; numbers = c.type_inv.numbers } })))
 
 -- the bytes that are written, and there is room for them
 count_is : (c : Else-m-ne0) → let args = c.args in (c.survey-m.result.bits + 13) / 8 ≡ length (delivery (supplied args.word (lists_from args.numbers.now 0 args.ends.now)))

@@ -24,7 +24,7 @@ sized c = list_size-is c.args.list.now ∙ ap (list_size 17 (length c.args.list.
 
 wide : (c : After-put_field) → Wide (largest c.args.list.now) c.args.w
 wide c =
-    subst (Wide (largest c.args.list.now)) (sym c.requires.wide) (gap_width_wide c.args.list.now (λ i. (c.shared_slice_known-1.given i).fits))
+    subst (Wide (largest c.args.list.now)) (sym c.requires.wide) (gap_width_wide c.args.list.now (λ i. (c.type_inv.list i).fits))
 
 -- the row up to behind the count, and up to behind the first number
 counted : (c : After-put_field) → let args = c.args in c.put_field.new.s ≡ put_bits args.s.now args.at (field 17 (65536 + length args.list.now))
@@ -58,7 +58,7 @@ pub put_field-requires-2 : goal.put_field-requires-2
 put_field-requires-2 c =
     let args = c.args in (
       omega arith,
-      (c.shared_slice_known-1.given 0).fits,
+      (c.type_inv.list 0).fits,
       omega (arith, sized (goal.at.put_field-requires-2 c).Start, size-some (length args.list.now) args.w (omega (arith, c.if-list-eq0.false)), c.requires.room, c.put_field.auto.s),
     )
 

@@ -40,7 +40,7 @@ room c =
 pub loop-i-init : goal.loop-i-init
 loop-i-init c =
     let args = c.args in
-    (omega arith, omega arith, omega (arith, mul-zero args.w), refl, λ i. (c.slice_known-1.given i).fits, refl, c.requires.rise, c.requires.hold)
+    (omega arith, omega arith, omega (arith, mul-zero args.w), refl, λ i. (c.type_inv.s i).fits, refl, c.requires.rise, c.requires.hold)
 
 pub overflow_sub-x : goal.overflow_sub-x
 overflow_sub-x c = omega (arith, (this (goal.at.overflow_sub-x c).In-loop-i).above)

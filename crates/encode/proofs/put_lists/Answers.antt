@@ -70,7 +70,7 @@ turn c =
     let up = and_true (ascending (list_at c)) (all_ascending (rest_at c)) (sym (ap all_ascending more) ∙ l.invariant.5) in
     let w = lay-head args.widths l.k (gap_width (list_at c)) (map gap_width (rest_at c)) (omega (arith, thirty_two c.before.before.before.before.before.before.before.before)) (l.invariant.6 ∙ ap (λ (ls : List (List ℕ)). lay args.widths l.k (map gap_width ls)) more) in
     let few : length (list_at c) ≤ 65535 = omega (arith, n.few, length-take (c.wide-stop.result - l.start) (drop l.start args.numbers.now)) in
-    let g = gap_width_wide (list_at c) (numbers_part args.numbers.now (c.wide-stop.result - l.start) l.start (λ i. (c.shared_slice_known-1.given i).fits)) in
+    let g = gap_width_wide (list_at c) (numbers_part args.numbers.now (c.wide-stop.result - l.start) l.start (λ i. (c.type_inv.numbers i).fits)) in
     record {
       more =
           supplied-more args.numbers.now args.ends.now l.start l.k args.word (omega arith)
@@ -89,7 +89,7 @@ turn c =
 pub loop-k-init : goal.loop-k-init
 loop-k-init c =
     let pre = c.requires in
-    (omega arith, omega arith, refl, λ i. (c.slice_known-1.given i).fits, pre.hold, pre.ascend, lay-again _ _ pre.wide, refl, refl)
+    (omega arith, omega arith, refl, λ i. (c.type_inv.s i).fits, pre.hold, pre.ascend, lay-again _ _ pre.wide, refl, refl)
 
 pub offset_bounds-numbers-start : goal.offset_bounds-numbers-start
 offset_bounds-numbers-start c = let t = turn (goal.at.offset_bounds-numbers-start c).After-wide-stop in search rules

@@ -52,7 +52,7 @@ found c =
     let l : List ℕ = part args.numbers.now c.loop-k.start stop in
     let r = risen l c.in-Ascending.largest (sym (ap rise_says c.in-Ascending.is) ∙ heard (record { before = c.before.before.before; type_inv = record { ends = c.type_inv.ends; numbers = c.type_inv.numbers } })) in
     let w : c.width_of-w.result ≡ gap_width l = c.width_of-w.ensures ∙ ap width (sym r.1) in
-    let few = gap_width_wide l (numbers_part args.numbers.now (stop - c.loop-k.start) c.loop-k.start (λ i. (c.shared_slice_known-1.given i).fits)) in
+    let few = gap_width_wide l (numbers_part args.numbers.now (stop - c.loop-k.start) c.loop-k.start (λ i. (c.type_inv.numbers i).fits)) in
     record { ascends = r.0; wide = w; most = omega (arith, few.most) }
 
 -- and these are its bits

@@ -39,7 +39,7 @@ room c =
 pub loop-drawn-init : goal.loop-drawn-init
 loop-drawn-init c =
     let pre = c.requires in
-    (pre.draws, pre.rise, pre.hold, refl, refl, λ i. (c.slice_known-1.given i).fits, refl, refl, refl)
+    (pre.draws, pre.rise, pre.hold, refl, refl, λ i. (c.type_inv.s i).fits, refl, refl, refl)
 
 pub draw-drawn-requires : goal.draw-drawn-requires
 draw-drawn-requires c = (c.loop-drawn.invariant.0, sym c.any_left.ensures ∙ c.loop-drawn-test.true)

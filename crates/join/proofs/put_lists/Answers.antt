@@ -91,7 +91,7 @@ loop-k-init c =
     let ss : List Supplied = joined args.full.now args.daily.now args.n in
     let r = subst (λ (m : ℕ). BothRead args.full.now args.daily.now m 6 6 × Left args.s.now ss (joined_on args.full.now args.daily.now m 6 6) args.s.now args.counts args.widths 6 0) all
     ((pre.full_reads, pre.daily_reads), record { hold = pre.hold; many = lay-again _ _ pre.many; wide = lay-again _ _ pre.wide; long = refl; put = refl }) in
-    (omega arith, omega arith, omega arith, refl, λ i. (c.slice_known-1.given i).fits, r.0, r.1)
+    (omega arith, omega arith, omega arith, refl, λ i. (c.type_inv.s i).fits, r.0, r.1)
 
 pub put_list-ends-requires : goal.put_list-ends-requires
 put_list-ends-requires c =
