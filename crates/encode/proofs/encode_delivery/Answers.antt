@@ -1,4 +1,4 @@
--- `encode::encode_delivery` meets its contract: test by test, in the order of `Lists.Lists-of`, then 6; then the number of lists,
+-- `encode::encode_delivery` meets its contract: test by test, in the order of `Lists.lists_of`, then 6; then the number of lists,
 -- the lists and the fill are put, which together are the delivery. Assumes nothing.
 use mathlib.Core.Path.{◌≡◌, refl, sym, ap, ap₂, ◌∙◌}
 use mathlib.Core.Bool.{Bool, true, false, ◌&&◌}

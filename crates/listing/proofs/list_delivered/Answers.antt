@@ -1,4 +1,4 @@
--- `list_delivered` meets its contract: test by test, in the order of `Over.List-over`; the page of 4,097 places holds every member
+-- `list_delivered` meets its contract: test by test, in the order of `Over.list_over`; the page of 4,097 places holds every member
 -- and ends with finished. Assumes nothing.
 use mathlib.Core.Path.{◌≡◌, refl, ap, ap₂, ◌∙◌}
 use mathlib.Core.List.{List}

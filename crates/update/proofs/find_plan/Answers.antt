@@ -1,4 +1,4 @@
--- `find_plan` meets its contract: test by test, in the order of `Plans.Placed-of`. Assumes nothing.
+-- `find_plan` meets its contract: test by test, in the order of `Plans.placed_of`. Assumes nothing.
 use mathlib.Core.Path.{◌≡◌, sym, ◌∙◌}
 use native.Mathlib.Omega.{arith}
 use lib.ListN.{length}
