@@ -1,6 +1,6 @@
 -- 01's table: P1 to P9 as one theorem about the definitions, and the small inputs of the refusal table as another; behind
 -- them rows of the requests' calls, and request Seven's pairs. Each side computes, so each proof is `refl`, but that a pair is a
--- regrouping, which is said by its kind, and the largest input, which is too long to compute. Assumes nothing.
+-- regrouping, which is said by its kind. Assumes nothing.
 use mathlib.Core.Path.{◌≡◌, refl}
 use mathlib.Core.Bool.{true, false}
 use mathlib.Core.List.{List, [], ◌∷◌, ◌++◌, map, flat_map}

@@ -85,7 +85,7 @@ list_size head n w = head + 32 * min n 1 + 5 * min (n - 1) 1 + w * (n - 1)
 unfoldable pub delivery_in : {A : Type 0} → Form A → List A → List ℕ
 delivery_in form ls = bytes (field 6 (length ls) ++ flat_map (list_bits form) ls)
 
--- Reading, from a source off which `take_bits w` takes a field of w bits
+-- Reading, from a source off which `take-bits w` takes a field of w bits
 module _ {S : Type 0} (take_bits : ℕ → S → Outcome (ℕ × S)) where
   -- the n numbers behind `last`, 8 at the gap that passes 4,294,967,295
   unfoldable pub read_gaps : ℕ → ℕ → ℕ → S → Outcome (List ℕ × S)

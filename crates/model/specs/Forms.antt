@@ -59,7 +59,7 @@ take_byte (b ∷ bs) = do
   n ← node_of b
   accepted (n, bs)
 
--- one node off packed bits, from a source off which `take_bits w` takes a field of w bits: a field that says the rest of
+-- one node off packed bits, from a source off which `take-bits w` takes a field of w bits: a field that says the rest of
 -- it, by its kind; 1 where the bits end
 module _ {S : Type 0} (take_bits : ℕ → S → Outcome (ℕ × S)) where
   unfoldable pub take_rest : ℕ → (ℕ → Node) → S → Outcome (Node × S)
@@ -88,7 +88,7 @@ there lists word k = do
   require 4 (ltb k lists)
   require 18 (delivered word k)
 
--- Reading either form, from a source off which `take_one` takes one node
+-- Reading either form, from a source off which `take-one` takes one node
 module _ {S : Type 0} (named : LeafTest) (take_one : S → Outcome (Node × S)) where
   -- a tree, or member nodes, with how many nodes are read and the source behind them
   abbrev pub Reading : Type 0 → Type 0

@@ -14,10 +14,10 @@ use Rattle.model.proofs.Accepted.{accepted-same, never_accepted, bound, both, re
 use Rattle.model.proofs.Bits.{taken, was_field}
 
 -- one node, and the source behind it, with more behind that
-abbrev GoesOn : {A S : Type 0} → (S → S) → (S → Outcome (A × S)) → Type 0
-GoesOn {A} {S} on take = (s : S) (r : A × S) → take s ≡ accepted r → take (on s) ≡ accepted (r.0, on r.1)
+abbrev Goes_on : {A S : Type 0} → (S → S) → (S → Outcome (A × S)) → Type 0
+Goes_on {A} {S} on take = (s : S) (r : A × S) → take s ≡ accepted r → take (on s) ≡ accepted (r.0, on r.1)
 
-module _ {S : Type 0} (test : LeafTest) (take_one : S → Outcome (Node × S)) (on : S → S) (one_on : GoesOn on take_one) where
+module _ {S : Type 0} (test : LeafTest) (take_one : S → Outcome (Node × S)) (on : S → S) (one_on : Goes_on on take_one) where
   abbrev ReadsOn : (ℕ → S → Outcome (Tree × ℕ × S)) → Type 0
   ReadsOn tree = (done : ℕ) (s : S) (r : Tree × ℕ × S) → tree done s ≡ accepted r → tree done (on s) ≡ accepted (r.0, r.1, on r.2)
 
@@ -66,7 +66,7 @@ module _ {S : Type 0} (test : LeafTest) (take_one : S → Outcome (Node × S)) (
       rw (a.0, one_on s b.got b.first) (below_on (read_tree test take_one d) (tree_on d) b.got.0 (suc done) b.got.1 r b.rest)
 
 -- the nodes of either form
-pub byte_on : (behind : List ℕ) → GoesOn (λ s. s ++ behind) take_byte
+pub byte_on : (behind : List ℕ) → Goes_on (λ s. s ++ behind) take_byte
 unfolding take_byte
 byte_on behind [] r e = never_accepted e
 byte_on behind (b ∷ bs) r e =
@@ -74,25 +74,25 @@ byte_on behind (b ∷ bs) r e =
     let q : (a.got, bs) ≡ r = accepted-same a.rest in
     ap (λ (o : Outcome Node). o >>= λ n. accepted (n, bs ++ behind)) a.first ∙ ap (λ (p : Node × List ℕ). accepted (p.0, p.1 ++ behind)) q
 
-field_on : (w : ℕ) (behind : List Bool) → GoesOn (λ s. s ++ behind) (take_field w)
+field_on : (w : ℕ) (behind : List Bool) → Goes_on (λ s. s ++ behind) (take_field w)
 field_on w behind s r e =
     ap (λ (l : List Bool). take_field w (l ++ behind)) (was_field w s r e) ∙ ap (take_field w) (append_assoc (field w r.0) r.1 behind) ∙ taken w r.0 (r.1 ++ behind) (field_lt w s r e)
 
-rest_on : (w : ℕ) (of : ℕ → Node) (behind : List Bool) → GoesOn (λ s. s ++ behind) (take_rest take_field w of)
+rest_on : (w : ℕ) (of : ℕ → Node) (behind : List Bool) → Goes_on (λ s. s ++ behind) (take_rest take_field w of)
 unfolding take_rest
 rest_on w of behind s r e =
     let a = bound (take_field w s) _ r e in
     let q : (of a.got.0, a.got.1) ≡ r = accepted-same a.rest in
     rw (← q, field_on w behind s a.got a.first) refl
 
-kind_on : (kind : ℕ) (behind : List Bool) → GoesOn (λ s. s ++ behind) (take_kind take_field kind)
+kind_on : (kind : ℕ) (behind : List Bool) → Goes_on (λ s. s ++ behind) (take_kind take_field kind)
 unfolding take_kind
 kind_on zero behind s r e = rest_on 5 Leaf behind s r e
 kind_on (suc zero) behind s r e = let q : (Difference, s) ≡ r = accepted-same e in rw (← q) refl
 kind_on (suc (suc zero)) behind s r e = rest_on 3 (λ n. Union (n + 1)) behind s r e
 kind_on (suc (suc (suc kind))) behind s r e = rest_on 3 (λ n. Intersection (n + 1)) behind s r e
 
-pub packed_on : (behind : List Bool) → GoesOn (λ s. s ++ behind) (take_node take_field)
+pub packed_on : (behind : List Bool) → Goes_on (λ s. s ++ behind) (take_node take_field)
 unfolding take_node
 packed_on behind s r e =
     let a = bound (take_field 2 s) _ r e in
