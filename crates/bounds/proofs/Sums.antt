@@ -1,7 +1,7 @@
 -- Sums and the least of a row, and that no row of nodes comes to more than its leaves can hold. Assumes nothing.
 use mathlib.Core.Path.{◌≡◌, refl}
 use mathlib.Core.List.{List, [], ◌∷◌}
-use Prim.Native.Nat.{ℕ, zero, suc, ◌+◌, ◌*◌, ◌≤◌, ◌<◌, min}
+use Prim.Native.Nat.{ℕ, zero, suc, ◌+◌, ◌*◌, ◌≤◌, min}
 use native.Mathlib.Nat.{mul-suc}
 use native.Mathlib.Omega.{arith}
 use lib.ListN.{length, get_or, take, drop, drop_of_length-le, length-drop}
@@ -11,7 +11,6 @@ use Rattle.model.specs.Outcome.{Outcome, refused, accepted}
 use Rattle.model.specs.Forms.{node_of}
 use Rattle.model.specs.Demands.{sum}
 use Rattle.expression.specs.Reading.{members}
-use Rattle.lists.proofs.Left.{left-cons}
 use Rattle.bounds.specs.Backwards.{least, bound, grown, trees, leaf_length, length_at, leaf_lengths}
 
 pub sum-split : (n : ℕ) (l : List ℕ) → sum (take n l) + sum (drop n l) ≡ sum l
@@ -20,31 +19,10 @@ sum-split zero l = omega arith
 sum-split (suc n) [] = refl
 sum-split (suc n) (x ∷ l) = omega (arith, sum-split n l)
 
--- ---- a row from place i on
-
-pub sum_left : (l : List ℕ) (i : ℕ) → i < length l → sum (drop i l) ≡ get_or l i 0 + sum (drop (i + 1) l)
-unfolding sum
-sum_left l i h = rw (left-cons l i h)
-
-pub sum-end : (l : List ℕ) (i : ℕ) → length l ≤ i → sum (drop i l) ≡ 0
-unfolding sum
-sum-end l i h = rw (drop_of_length-le l h)
-
-least-joins : (x y : ℕ) (l : List ℕ) → least (x ∷ y ∷ l) ≡ least (min x y ∷ l)
+pub least-joins : (x y : ℕ) (l : List ℕ) → least (x ∷ y ∷ l) ≡ least (min x y ∷ l)
 unfolding least
 least-joins x y [] = refl
 least-joins x y (z ∷ l) = omega arith
-
-pub least_first : (l : List ℕ) → 1 ≤ length l → least l ≡ least (get_or l 0 0 ∷ drop 1 l)
-least_first [] h = absurd (omega arith)
-least_first (x ∷ l) h = refl
-
-pub least-left : (x : ℕ) (l : List ℕ) (i : ℕ) → i < length l → least (x ∷ drop i l) ≡ least (min x (get_or l i 0) ∷ drop (i + 1) l)
-least-left x l i h = rw (left-cons l i h) (least-joins x (get_or l i 0) (drop (i + 1) l))
-
-pub least-end : (x : ℕ) (l : List ℕ) (i : ℕ) → length l ≤ i → least (x ∷ drop i l) ≡ x
-unfolding least
-least-end x l i h = rw (drop_of_length-le l h)
 
 -- ---- what a row comes to is within its sum
 

@@ -9,11 +9,13 @@ ghost use Rattle.model.specs.Outcome.{accepted};
 ghost use Rattle.model.specs.Forms.{node_of};
 ghost use Rattle.model.specs.Demands.{sum};
 ghost use Rattle.model.specs.Bounds.{lengths_from, ends_rise, most_bytes, bounds as bounds_call, bounded};
+ghost use Rattle.bounds.specs.Handed.{bounded_as};
 ghost use Rattle.bounds.specs.Backwards.{least, bound, trees, Fed, Whole, leaf_length, leaf_lengths};
 ghost use Rattle.expression.specs.Reading.{members};
 
-use expression::{Form, Kind};
+use expression::Form;
 use model::{BoundsResult, Node};
+use refusals::Refusal;
 
 // As many numbers as 32 lists can have: no row is lent, and this one no end passes unless a list is too long.
 const NO_ROW: usize = 2097120;
@@ -21,20 +23,12 @@ const NO_ROW: usize = 2097120;
 // The word with which every list was delivered: "the expression's but 18".
 const EVERY_LIST: u32 = 4294967295;
 
-// A length as a 32-bit number.
-fn narrow(x: usize) -> u32
-    requires { x ≤ 65535 }
-    ensures { result ≡ x }
-{
-    x as u32
-}
-
 // How many numbers list k has.
 fn list_length(ends: &[u32], k: usize) -> u32
     requires { (ends_rise 0 ends.now ≡ true) × (k < length ends.now) }
     ensures { result ≡ get_or (lengths_from 0 ends.now) k 0 }
 {
-    narrow(lists::length_of(ends, k))
+    lists::length_of(ends, k) as u32
 }
 
 // The sum of a row.
@@ -42,40 +36,21 @@ fn sum_of(row: &[u32]) -> u32
     requires { sum row.now < 2 ^ 32 }
     ensures { result ≡ sum row.now }
 {
-    let mut total: u32 = 0;
-    let mut i: usize = 0;
-    while i < row.len() {
-        total += row[i];
-        i += 1;
-    }
-    total
+    row.iter().sum()
 }
 
-// The least of a row that has one element or more.
+// The least of a row, 0 of an empty one.
 fn least_of(row: &[u32]) -> u32
-    requires { 1 ≤ length row.now }
     ensures { result ≡ least row.now }
 {
-    let mut found = row[0];
-    let mut i: usize = 1;
-    while i < row.len() {
-        if row[i] < found {
-            found = row[i];
-        }
-        i += 1;
-    }
-    found
+    row.iter().copied().min().unwrap_or(0)
 }
 
 // The node of a byte that is one; of any other nothing is said, and none is asked.
 fn known(b: u8) -> Node
     ensures { (n : Node) → node_of b ≡ accepted n → result ≡ n }
 {
-    let kind = expression::node_of(b);
-    let Kind::Known(node) = kind else {
-        return Node::Difference;
-    };
-    node
+    expression::node_of(b).unwrap_or(Node::Difference)
 }
 
 // "a list its length, a union the sum, an intersection the least, a difference its first part's": from the bounds of its member nodes.
@@ -85,7 +60,7 @@ fn bound_of(ends: &[u32], node: Node, parts: &[u32]) -> u32
     ensures { result ≡ bound (lengths_from 0 ends.now) node parts.now }
 {
     match node {
-        Node::Leaf(k) => list_length(ends, expression::wide(k)),
+        Node::Leaf(k) => list_length(ends, k as usize),
         Node::Difference => parts[0],
         Node::Union(_) => sum_of(parts),
         Node::Intersection(_) => least_of(parts),
@@ -100,11 +75,9 @@ fn most_members(ends: &[u32], nodes: &[u8]) -> u32
 {
     let mut bounds = [0u32; 48];
     let mut at: usize = 48;
-    let mut i = nodes.len();
-    while 0 < i {
-        i -= 1;
-        let node = known(nodes[i]);
-        let behind = at + expression::wide(expression::members_of(node));
+    for &b in nodes.iter().rev() {
+        let node = known(b);
+        let behind = at + expression::members_of(node) as usize;
         let bound = bound_of(ends, node, &bounds[at..behind]);
         at = behind - 1;
         bounds[at] = bound;
@@ -119,10 +92,8 @@ fn leaf_length(ends: &[u32], node: Node) -> u32
     ensures { result ≡ leaf_length (lengths_from 0 ends.now) node }
 {
     match node {
-        Node::Leaf(k) => list_length(ends, expression::wide(k)),
-        Node::Difference => 0,
-        Node::Union(_) => 0,
-        Node::Intersection(_) => 0,
+        Node::Leaf(k) => list_length(ends, k as usize),
+        Node::Difference | Node::Union(_) | Node::Intersection(_) => 0,
     }
 }
 
@@ -133,10 +104,8 @@ fn most_moves(ends: &[u32], nodes: &[u8]) -> u32
     ensures { result ≡ leaf_lengths (lengths_from 0 ends.now) nodes.now }
 {
     let mut moves: u32 = 0;
-    let mut i: usize = 0;
-    while i < nodes.len() {
-        moves += leaf_length(ends, known(nodes[i]));
-        i += 1;
+    for &b in nodes {
+        moves += leaf_length(ends, known(b));
     }
     moves
 }
@@ -147,35 +116,39 @@ fn most_bytes(ends: &[u32]) -> usize
     ensures { result ≡ most_bytes (lengths_from 0 ends.now) }
 {
     let mut bits: usize = 6;
-    let mut k: usize = 0;
-    while k < ends.len() {
+    for k in 0..ends.len() {
         bits += encode::bits_of(true, lists::length_of(ends, k), 32);
-        k += 1;
     }
     // up to a whole byte
     (bits + 7) >> 3
+}
+
+// What is known of every run over lists with these ends, and of every delivery of them, or what refuses it.
+fn foresee(ends: &[u32], packed: &[u8]) -> Result<BoundsResult, Refusal>
+    ensures { bounded (bounded_as result) ≡ bounds_call ends.now packed.now }
+{
+    if !lists::count_holds(ends.len()) {
+        return Err(Refusal::ListCount);
+    }
+    if !lists::ends_hold(NO_ROW, ends) {
+        return Err(Refusal::BadEnds);
+    }
+    let e = expression::read_expression(Form::Packed, packed, ends.len(), EVERY_LIST)?;
+    let nodes = &e.nodes[..e.count];
+    Ok(BoundsResult {
+        number: 0,
+        members: most_members(ends, nodes),
+        moves: most_moves(ends, nodes),
+        bytes: most_bytes(ends),
+    })
 }
 
 // What is known of every run over lists with these ends, and of every delivery of them, before a number is read.
 pub fn bounds(ends: &[u32], packed: &[u8]) -> BoundsResult
     ensures { bounded result ≡ bounds_call ends.now packed.now }
 {
-    if !lists::count_holds(ends.len()) {
-        return BoundsResult::refused(7);
-    }
-    if !lists::ends_hold(NO_ROW, ends) {
-        return BoundsResult::refused(10);
-    }
-    let e = expression::read_expression(Form::Packed, packed, ends.len(), EVERY_LIST);
-    if e.number != 0 {
-        return BoundsResult::refused(e.number);
-    }
-    let nodes = e.nodes;
-    let count = e.count;
-    BoundsResult {
-        number: 0,
-        members: most_members(ends, &nodes[..count]),
-        moves: most_moves(ends, &nodes[..count]),
-        bytes: most_bytes(ends),
+    match foresee(ends, packed) {
+        Ok(found) => found,
+        Err(refusal) => BoundsResult::refused(u32::from(refusal)),
     }
 }

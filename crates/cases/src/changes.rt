@@ -2,7 +2,7 @@
 ghost use Rattle.std.specs.Prelude.{◌<◌, ◌≤◌};
 
 use crate::dice::{pick, roll};
-use crate::inputs::{Lists, end, narrow, start, wide};
+use crate::inputs::{Lists, narrow};
 use crate::requests::{any_argument, nudged};
 
 // What the numbers of this file are drawn for.
@@ -23,7 +23,8 @@ const PLACE: u64 = 506;
 // The index of a change's number among the numbers that calls have.
 const CHANGED: u64 = 2000;
 
-// A number, the list that it is added to or removed from, whether it is added (0 is not), and how many numbers are lent.
+// A number, the list that it is added to or removed from, whether it is added (0 is not; a byte, as C hands it in), and how many
+// numbers are lent.
 #[derive(Drop)]
 pub struct Change {
     pub list: usize,
@@ -41,102 +42,82 @@ pub struct Kept {
 }
 
 // A list that is there in 93 of 100 cases, else the one behind the last, or the greatest number.
-fn list(case: u64, count: usize) -> usize {
-    let p = pick(case, LIST, 0, 100);
-    if p < 93 {
-        return pick(case, LIST, 1, count as u64 % 33) as usize;
+fn list(case: u64, l: &Lists) -> usize {
+    match pick(case, LIST, 0, 100) {
+        0..93 => pick(case, LIST, 1, l.count as u64) as usize,
+        93..98 => l.count,
+        _ => usize::MAX,
     }
-    if p < 98 {
-        return count;
-    }
-    18446744073709551615
 }
 
 // Added in half of the cases, mostly by 1.
 fn add(case: u64) -> u8 {
-    let p = pick(case, ADD, 0, 100);
-    if p < 50 {
-        return 0;
+    match pick(case, ADD, 0, 100) {
+        0..50 => 0,
+        50..80 => 1,
+        80..90 => 255,
+        _ => (roll(case, ADD, 1) % 256) as u8,
     }
-    if p < 80 {
-        return 1;
-    }
-    if p < 90 {
-        return 255;
-    }
-    (roll(case, ADD, 1) % 256) as u8
 }
 
 // A number of list k, or any where it has none.
-fn own(case: u64, l: Lists, k: usize) -> u64
+fn own(case: u64, l: &Lists, k: usize) -> u64
     ensures { result < 4294967296 }
 {
-    let from = start(l, k);
-    let to = end(l, k);
+    let from = l.start(k);
+    let to = l.end(k);
     if to <= from {
-        return any_argument(case, CHANGED, l);
+        return any_argument(case, CHANGED, *l);
     }
     let at = ((from + pick(case, NUMBER, 1, to - from)) % 512) as usize;
-    wide(l.numbers[at])
+    u64::from(l.numbers[at])
 }
 
 // A number to remove is one of the list in 88 of 100 cases, a number to add in 8.
-fn number(case: u64, l: Lists, k: usize, add: u8) -> u64
+fn number(case: u64, l: &Lists, k: usize, add: u8) -> u64
     ensures { result < 4294967296 }
 {
-    let p = pick(case, NUMBER, 0, 100);
-    let owned = if add == 0 { p < 88 } else { p < 8 };
-    if owned {
-        return own(case, l, k);
+    let owned = if add == 0 { 88 } else { 8 };
+    if pick(case, NUMBER, 0, 100) < owned {
+        own(case, l, k)
+    } else {
+        any_argument(case, CHANGED, *l)
     }
-    any_argument(case, CHANGED, l)
 }
 
 // How many places a row has more than are used: none in 12 of 100 cases, 1 in 48, 2 to 7 in 40.
 fn more(case: u64, purpose: u64) -> usize
     ensures { result ≤ 7 }
 {
-    let p = pick(case, purpose, 0, 100);
-    if p < 12 {
-        return 0;
+    match pick(case, purpose, 0, 100) {
+        0..12 => 0,
+        12..60 => 1,
+        p => (2 + p % 6) as usize,
     }
-    if p < 60 {
-        return 1;
-    }
-    (2 + p % 6) as usize
 }
 
-// How many numbers are lent, at most 512.
-fn room(case: u64, used: usize) -> usize
-    ensures { result ≤ 512 }
-{
-    let n = used % 513 + more(case, ROOM);
-    if n < 512 { n } else { 512 }
-}
-
+// Of the row that the lists lie in at most 512 numbers are lent.
 pub fn change_of(case: u64, l: Lists) -> Change
     ensures { result.room ≤ 512 }
 {
-    let k = list(case, l.count);
+    let k = list(case, &l);
     let how = add(case);
     Change {
         list: k,
-        number: narrow(number(case, l, k, how)),
+        number: narrow(number(case, &l, k, how)),
         add: how,
-        room: room(case, l.used),
+        room: (l.used.min(512) + more(case, ROOM)).min(512),
     }
 }
 
-// The kept row with another number among its members: a neighbour, or the same in 60 of 100 cases.
-fn with_another(case: u64, k: Kept) -> Kept
-    ensures { result.room ≤ 520 }
+// A kept row with another number among its members: a neighbour, or the same in 60 of 100 cases.
+fn with_another(case: u64, row: [u32; 520], members: usize) -> [u32; 520]
+    requires { members ≤ 512 }
 {
-    let mut d = k;
-    let at = pick(case, PLACE, 0, k.count as u64 % 513) as usize % 520;
-    let old = wide(d.row[at]);
-    d.row[at] = narrow(nudged(case, CHANGED + 1, old));
-    d.room = k.room % 521;
-    d
+    let mut other = row;
+    let at = pick(case, PLACE, 0, members as u64) as usize;
+    other[at] = narrow(nudged(case, CHANGED + 1, u64::from(row[at])));
+    other
 }
 
 // The kept row of a case that has so many members. Of 100 cases: right in 80, an element changed or not in 8, a member too few in 4
@@ -144,31 +125,33 @@ fn with_another(case: u64, k: Kept) -> Kept
 pub fn kept_of(case: u64, row: [u32; 520], members: usize) -> Kept
     ensures { result.room ≤ 520 }
 {
-    let p = pick(case, FAULT, 0, 100);
     let n = members % 513;
-    let mut k = Kept {
+    let right = Kept {
         row,
         room: n + more(case, SPARE),
         count: n,
     };
-    if p < 80 {
-        return k;
+    match pick(case, FAULT, 0, 100) {
+        0..80 => right,
+        80..88 => Kept {
+            row: with_another(case, row, n),
+            ..right
+        },
+        88..92 => Kept {
+            count: n + 1,
+            ..right
+        },
+        92..96 => Kept {
+            count: if n > 0 { n - 1 } else { 1 },
+            ..right
+        },
+        96..99 => Kept {
+            room: n / 2,
+            ..right
+        },
+        _ => Kept {
+            count: usize::MAX,
+            ..right
+        },
     }
-    if p < 88 {
-        return with_another(case, k);
-    }
-    if p < 92 {
-        k.count = n + 1;
-        return k;
-    }
-    if p < 96 {
-        k.count = if n > 0 { n - 1 } else { 1 };
-        return k;
-    }
-    if p < 99 {
-        k.room = n / 2;
-        return k;
-    }
-    k.count = 18446744073709551615;
-    k
 }

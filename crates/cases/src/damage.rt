@@ -1,8 +1,8 @@
 // Inputs that are mostly to be refused.
-ghost use Rattle.std.specs.Prelude.{◌<◌, ◌≤◌};
+ghost use Rattle.std.specs.Prelude.{◌<◌, ◌≤◌, ◌≡◌};
 
 use crate::dice::{pick, roll};
-use crate::inputs::{Begin, Bytes, Lists, narrow, wide};
+use crate::inputs::{Begin, Bytes, Lists, narrow};
 use crate::words::{any_word, none_empty, turned};
 
 // What the numbers of this file are drawn for.
@@ -20,19 +20,29 @@ const WORD: u64 = 405;
 
 // The bytes with one of them changed: a bit turned, or another value put.
 fn changed(case: u64, b: Bytes, turned: bool) -> Bytes
+    ensures { result.count ≡ b.count }
+{
+    if b.count == 0 {
+        return b;
+    }
+    let mut d = b;
+    let at = (roll(case, PLACE, 0) % b.count as u64 % 64) as usize;
+    let value = (roll(case, VALUE, 0) % 256) as u8;
+    let bit = 1 << (value % 8);
+    d.bytes[at] = if turned { b.bytes[at] ^ bit } else { value };
+    d
+}
+
+// The bytes with one more, where there is room for it.
+fn with_byte(b: Bytes, byte: u8) -> Bytes
+    requires { b.count ≤ 64 }
     ensures { result.count ≤ 64 }
 {
     let mut d = b;
-    let n = b.count % 65;
-    d.count = n;
-    if n == 0 {
-        return d;
+    if b.count < 64 {
+        d.bytes[b.count] = byte;
+        d.count = b.count + 1;
     }
-    let at = (roll(case, PLACE, 0) % n as u64 % 64) as usize;
-    let value = (roll(case, VALUE, 0) % 256) as u8;
-    let bit = 1 << (value % 8);
-    let old = d.bytes[at];
-    d.bytes[at] = if turned { old ^ bit } else { value };
     d
 }
 
@@ -42,96 +52,73 @@ fn changed(case: u64, b: Bytes, turned: bool) -> Bytes
 pub fn damaged(case: u64, b: Bytes) -> Bytes
     ensures { result.count ≤ 64 }
 {
-    let p = pick(case, KIND, 0, 100);
     let n = b.count % 65;
-    if p < 65 {
-        return changed(case, b, p < 45);
+    let whole = Bytes { count: n, ..b };
+    match pick(case, KIND, 0, 100) {
+        0..45 => changed(case, whole, true),
+        45..65 => changed(case, whole, false),
+        65..82 => Bytes {
+            count: n.saturating_sub(1),
+            ..b
+        },
+        82..91 => with_byte(whole, 0),
+        _ => with_byte(whole, (roll(case, VALUE, 1) % 256) as u8),
     }
-    let mut d = b;
-    d.count = n;
-    if p < 82 && n > 0 {
-        d.count = n - 1;
-        return d;
-    }
-    if n < 64 && p >= 82 {
-        d.bytes[n] = if p < 91 {
-            0
-        } else {
-            (roll(case, VALUE, 1) % 256) as u8
-        };
-        d.count = n + 1;
-    }
-    d
 }
 
 // The lists with two neighbouring ends swapped.
 fn swapped(l: Lists, at: usize) -> Lists
-    ensures { (result.used ≤ 512) × (result.count ≤ 32) }
+    requires { at < 31 }
 {
     let mut d = l;
-    let i = at % 31;
-    let j = i + 1;
-    let a = d.ends[i];
-    let b = d.ends[j];
-    d.ends[i] = b;
-    d.ends[j] = a;
-    d.used = l.used % 513;
-    d.count = l.count % 33;
+    d.ends.swap(at, at + 1);
     d
 }
 
 // The lists with another end at a place.
-fn with_end(l: Lists, at: usize, end: u64) -> Lists
-    ensures { (result.used ≤ 512) × (result.count ≤ 32) }
-{
+fn with_end(l: Lists, at: usize, end: u64) -> Lists {
     let mut d = l;
-    let i = at % 32;
-    d.ends[i] = narrow(end);
-    d.used = l.used % 513;
-    d.count = l.count % 33;
+    d.ends[at % 32] = narrow(end);
     d
 }
 
 // The lists with a number so far above the one behind it.
 fn with_number(l: Lists, at: usize, above: u64) -> Lists
-    ensures { (result.used ≤ 512) × (result.count ≤ 32) }
+    requires { at < 511 }
 {
     let mut d = l;
-    let i = at % 511;
-    let j = i + 1;
-    d.numbers[i] = narrow(wide(d.numbers[j]) + above % 4294967296);
-    d.used = l.used % 513;
-    d.count = l.count % 33;
+    d.numbers[at] = l.numbers[at + 1].wrapping_add(narrow(above));
     d
 }
 
 // The lists with another word.
-fn with_word(l: Lists, word: u32) -> Lists
-    ensures { (result.used ≤ 512) × (result.count ≤ 32) }
-{
+fn with_word(l: Lists, word: u32) -> Lists {
     let mut d = l;
     d.word = word;
-    d.used = l.used % 513;
-    d.count = l.count % 33;
     d
 }
 
-// The end of a list.
-fn end_at(l: Lists, at: usize) -> u64
-    ensures { result < 4294967296 }
-{
-    let i = at % 32;
-    wide(l.ends[i])
+// None of the lists.
+fn emptied(l: Lists) -> Lists {
+    let mut d = l;
+    d.count = 0;
+    d
 }
 
 // One less than a count, and at least 1: so many places have one behind them.
-fn but_last(count: usize) -> usize {
-    if count > 1 { count - 1 } else { 1 }
+fn but_last(count: usize) -> usize
+    ensures least { 1 ≤ result }
+    ensures most { 2 ≤ count → result < count }
+    ensures one { count < 2 → result ≡ 1 }
+{
+    count.saturating_sub(1).max(1)
 }
 
 // Some place below a count, or 0.
-fn below(case: u64, count: usize) -> usize {
-    pick(case, LISTS, 1, count as u64 % 513) as usize
+fn below(case: u64, count: usize) -> usize
+    ensures { 1 ≤ count → result < count }
+{
+    pick(case, LISTS, 1, count as u64) as usize
 }
 
 // Lists with a fault in their numbers or ends. Of 100 cases: two ends swapped in 18, an end past the row in 14, far past it
@@ -139,37 +126,22 @@ fn below(case: u64, count: usize) -> usize {
 // or above it in 16, no lists in 4, no fault in 6. A fault that hits two equal ends, or numbers of two
 // lists, can leave accepted lists.
 fn damaged_rows(case: u64, l: Lists) -> Lists
-    ensures { (result.used ≤ 512) × (result.count ≤ 32) }
+    requires { (l.used ≤ 512) × (l.count ≤ 32) }
 {
-    let p = pick(case, LISTS, 0, 100);
     let r = 1 + roll(case, LISTS, 2) % 4;
     let list = below(case, l.count);
-    let old = end_at(l, list);
-    if p < 18 {
-        return swapped(l, below(case, but_last(l.count)));
+    let old = l.end(list);
+    match pick(case, LISTS, 0, 100) {
+        0..18 => swapped(l, below(case, but_last(l.count))),
+        18..22 => with_end(l, list, 4294967295),
+        22..32 => with_end(l, list, l.used as u64 + r),
+        32..46 => with_end(l, list, old.saturating_sub(r)),
+        46..58 => with_end(l, list, old + r),
+        58..74 => with_number(l, below(case, but_last(l.used)), 0),
+        74..90 => with_number(l, below(case, but_last(l.used)), r),
+        90..94 => emptied(l),
+        _ => l,
     }
-    if p < 22 {
-        return with_end(l, list, 4294967295);
-    }
-    if p < 32 {
-        return with_end(l, list, l.used as u64 % 513 + r);
-    }
-    if p < 46 {
-        return with_end(l, list, if old < r { 0 } else { old - r });
-    }
-    if p < 58 {
-        return with_end(l, list, old + r);
-    }
-    if p < 90 {
-        return with_number(l, below(case, but_last(l.used)), if p < 74 { 0 } else { r });
-    }
-    if p < 94 {
-        let mut d = l;
-        d.used = l.used % 513;
-        d.count = 0;
-        return d;
-    }
-    with_end(l, list, old)
 }
 
 // Lists with one fault. Of 100 cases: one list's bit turned in 12, no empty list delivered in 12, any word in 6, else a fault in
@@ -177,34 +149,38 @@ fn damaged_rows(case: u64, l: Lists) -> Lists
 pub fn damaged_lists(case: u64, l: Lists) -> Lists
     ensures { (result.used ≤ 512) × (result.count ≤ 32) }
 {
-    let p = pick(case, WORD, 0, 100);
-    if p < 12 {
-        return with_word(l, turned(l.word, below(case, l.count)));
+    // any lists may be handed in; those that `lists` makes fit
+    let used = l.used.min(512);
+    let l = Lists {
+        used,
+        count: l.count.min(32),
+        ..l
+    };
+    let d = match pick(case, WORD, 0, 100) {
+        0..12 => with_word(l, turned(l.word, below(case, l.count))),
+        12..24 => with_word(l, none_empty(l)),
+        24..30 => with_word(l, any_word(case)),
+        _ => damaged_rows(case, l),
+    };
+    Lists {
+        used,
+        count: d.count.min(32),
+        ..d
     }
-    if p < 24 {
-        return with_word(l, none_empty(l));
-    }
-    if p < 30 {
-        return with_word(l, any_word(case));
-    }
-    damaged_rows(case, l)
 }
 
 // The bookmark in 90 of 100 cases, and else one above 4294967296: the next one, or the largest.
 fn bad_bookmark(case: u64, b: u64) -> u64 {
-    let p = pick(case, MARK, 0, 100);
-    if p < 90 {
-        return b;
+    match pick(case, MARK, 0, 100) {
+        0..90 => b,
+        90..95 => 4294967297,
+        _ => u64::MAX,
     }
-    if p < 95 {
-        return 4294967297;
-    }
-    18446744073709551615
 }
 
 // Where a run begins, which may be refused.
 pub fn bad_begins(case: u64, b: Begin) -> Begin {
-    let mut d = b;
-    d.bookmark = bad_bookmark(case, b.bookmark);
-    d
+    Begin {
+        bookmark: bad_bookmark(case, b.bookmark),
+    }
 }

@@ -16,7 +16,7 @@ pub mod words;
 
 pub use changes::{Change, Kept, change_of, kept_of};
 pub use damage::{bad_begins, damaged, damaged_lists};
-pub use inputs::{Begin, Bytes, Calls, Lists, Row, first_bytes, first_numbers};
+pub use inputs::{Begin, Bytes, Calls, Lists, Row};
 pub use joins::{join_room, spoiled};
 pub use numbers::{daily_lists, lists};
 pub use packing::packed;

@@ -1,6 +1,6 @@
 // Lists. Each case has a universe, a rising row of candidates, and each list keeps some of them, so
 // every list ascends strictly whatever is kept.
-ghost use Rattle.std.specs.Prelude.{◌≤◌};
+ghost use Rattle.std.specs.Prelude.{◌≤◌, ◌≡◌};
 
 use crate::dice::{pick, roll};
 use crate::inputs::{Lists, narrow};
@@ -39,66 +39,62 @@ const DAILY_WORDS: u64 = 1099511627776;
 fn count(case: u64) -> u64
     ensures { (1 ≤ result) × (result ≤ 32) }
 {
-    let p = pick(case, COUNT, 0, 100);
     let r = roll(case, COUNT, 1);
-    if p < 8 {
-        return 1;
+    match pick(case, COUNT, 0, 100) {
+        0..8 => 1,
+        8..84 => 2 + r % 5,
+        84..94 => 7 + r % 6,
+        94..97 => 13 + r % 19,
+        _ => 32,
     }
-    if p < 84 {
-        return 2 + r % 5;
-    }
-    if p < 94 {
-        return 7 + r % 6;
-    }
-    if p < 97 {
-        return 13 + r % 19;
-    }
-    32
 }
 
 // How many lists a daily delivery has: as many as the case's own in 94 of 100 cases, one more in 2, and else any number.
 fn daily_count(case: u64) -> u64
     ensures { (1 ≤ result) × (result ≤ 32) }
 {
-    let p = pick(case, DAILY, 0, 100);
     let n = count(case);
-    if p < 94 {
-        return n;
+    match pick(case, DAILY, 0, 100) {
+        0..94 => n,
+        94..96 => n % 32 + 1,
+        _ => 1 + roll(case, DAILY, 1) % 32,
     }
-    if p < 96 {
-        return n % 32 + 1;
-    }
-    1 + roll(case, DAILY, 1) % 32
 }
 
-// How the lists of a case go together. Of 100 cases:
-// 0, 48: each keeps candidates by itself. 1, 8: one choice and one density, so all are equal.
-// 2, 12: one choice and several densities, so each is a subset of the denser ones.
-// 3, 12: interleaved, no candidate in two neighbouring lists. 4, 10: runs of neighbours.
-// 5, 10: one list has every candidate and the others few.
-fn relation(case: u64) -> u64 {
-    let p = pick(case, RELATION, 0, 100);
-    if p < 48 {
-        return 0;
+// How the lists of a case go together.
+#[derive(Clone, Copy)]
+enum Relation {
+    // Each keeps candidates by itself.
+    Apart,
+    // One choice and one density, so all are equal.
+    Equal,
+    // One choice and several densities, so each is a subset of the denser ones.
+    Nested,
+    // No candidate in two neighbouring lists.
+    Interleaved,
+    // Runs of neighbours.
+    Runs,
+    // One list has every candidate and the others few.
+    Long,
+}
+
+impl Relation {
+    // Of 100 cases: apart in 48, equal in 8, nested in 12, interleaved in 12, runs in 10, one long in 10.
+    fn of(case: u64) -> Relation {
+        match pick(case, RELATION, 0, 100) {
+            0..48 => Relation::Apart,
+            48..56 => Relation::Equal,
+            56..68 => Relation::Nested,
+            68..80 => Relation::Interleaved,
+            80..90 => Relation::Runs,
+            _ => Relation::Long,
+        }
     }
-    if p < 56 {
-        return 1;
-    }
-    if p < 68 {
-        return 2;
-    }
-    if p < 80 {
-        return 3;
-    }
-    if p < 90 {
-        return 4;
-    }
-    5
 }
 
 // Whether one list of a case has every candidate, and so is far longer than the others.
 pub fn is_long(case: u64) -> bool {
-    relation(case) == 5
+    matches!(Relation::of(case), Relation::Long)
 }
 
 // How many candidates such a case has: 40 to 200, and in half of the cases as many as one, two or three hops take, or a number less
@@ -108,9 +104,10 @@ fn long_size(case: u64) -> u64
 {
     let r = roll(case, LONG, 0);
     if pick(case, LONG, 2, 100) < 50 {
-        return 40 + r % 161;
+        40 + r % 161
+    } else {
+        63 + r % 3 * 64 + r / 3 % 3
     }
-    63 + r % 3 * 64 + r / 3 % 3
 }
 
 // How many candidates: 20 in 70 of 100 cases, 40 in 15, 8 in 15; more where one list is far longer.
@@ -120,14 +117,11 @@ pub fn candidates(case: u64) -> u64
     if is_long(case) {
         return long_size(case);
     }
-    let p = pick(case, SIZE, 0, 100);
-    if p < 70 {
-        return 20;
+    match pick(case, SIZE, 0, 100) {
+        0..70 => 20,
+        70..85 => 40,
+        _ => 8,
     }
-    if p < 85 {
-        return 40;
-    }
-    8
 }
 
 // How many candidates a list is offered: of a daily delivery's none in 25 of 100.
@@ -143,46 +137,32 @@ fn offered(case: u64, list: u64) -> u64
 // A candidate of a universe of n. Of 100 cases: 45 from 0 on, 17 up to 4294967295, 10 with a half at
 // each end of the range, 13 spread over the whole range, 15 from a small number on with gaps.
 pub fn candidate(case: u64, n: u64, slot: u64) -> u64 {
-    let p = pick(case, UNIVERSE, 0, 100);
     let s = slot % 256;
     let top = 4294967296 - n % 256 + s;
-    if p < 45 {
-        return s;
-    }
-    if p < 62 {
-        return top;
-    }
-    if p < 72 {
-        if s < n / 2 {
-            return s;
-        }
-        return top;
-    }
-    if p < 85 {
+    match pick(case, UNIVERSE, 0, 100) {
+        0..45 => s,
+        45..62 => top,
+        62..72 if s < n / 2 => s,
+        62..72 => top,
         // The jitter is half a step at most, so that the candidates still rise.
-        return (s * 4294967296 + roll(case, JITTER, slot) % 2147483648) / (n % 256 + 1);
+        72..85 => (s * 4294967296 + roll(case, JITTER, slot) % 2147483648) / (n % 256 + 1),
+        _ => roll(case, BASE, 0) % 1000 + s * 5 + roll(case, JITTER, slot) % 5,
     }
-    roll(case, BASE, 0) % 1000 + s * 5 + roll(case, JITTER, slot) % 5
 }
 
 // How many of 16 candidates a list keeps: none in 11 of 100 lists, 1 to 3 in 17, 4 to 8 in 40, 9 to
 // 13 in 22, all in 10.
-fn density(case: u64, list: u64) -> u64 {
-    let p = pick(case, DENSITY, list, 100);
+fn density(case: u64, list: u64) -> u64
+    ensures { result ≤ 16 }
+{
     let r = roll(case, DENSITY, 1000 + list % 1000);
-    if p < 11 {
-        return 0;
+    match pick(case, DENSITY, list, 100) {
+        0..11 => 0,
+        11..28 => 1 + r % 3,
+        28..68 => 4 + r % 5,
+        68..90 => 9 + r % 5,
+        _ => 16,
     }
-    if p < 28 {
-        return 1 + r % 3;
-    }
-    if p < 68 {
-        return 4 + r % 5;
-    }
-    if p < 90 {
-        return 9 + r % 5;
-    }
-    16
 }
 
 // The choice of a list at a slot, the same for all lists of one key.
@@ -194,72 +174,63 @@ fn chance(case: u64, key: u64, slot: u64) -> u64
 
 // Whether a list keeps the candidate at a slot.
 fn keeps(case: u64, list: u64, slot: u64) -> bool {
-    let how = relation(case);
     let own = density(case, list);
-    if how == 1 {
-        return chance(case, 0, slot) < 1 + density(case, 0) % 16;
+    match Relation::of(case) {
+        Relation::Apart => chance(case, list, slot) < own,
+        Relation::Equal => chance(case, 0, slot) < 1 + density(case, 0) % 16,
+        Relation::Nested => chance(case, 0, slot) < own,
+        Relation::Interleaved => {
+            let m = 2 + roll(case, BLOCK, 0) % 3;
+            slot % m == list % m && chance(case, list, slot) < 13
+        }
+        Relation::Runs => chance(case, list, slot / (2 + roll(case, BLOCK, 1) % 5)) < own,
+        Relation::Long => {
+            list % 32 == roll(case, LONG, 1) % count(case) || chance(case, list, slot) < 1
+        }
     }
-    if how == 2 {
-        return chance(case, 0, slot) < own;
-    }
-    if how == 3 {
-        let m = 2 + roll(case, BLOCK, 0) % 3;
-        return slot % m == list % m && chance(case, list, slot) < 13;
-    }
-    if how == 4 {
-        let m = 2 + roll(case, BLOCK, 1) % 5;
-        return chance(case, list, slot / m) < own;
-    }
-    if how == 5 {
-        return list % 32 == roll(case, LONG, 1) % count(case) || chance(case, list, slot) < 1;
-    }
-    chance(case, list, slot) < own
 }
 
 // Where the next number of the row goes, once a list was offered the candidate at a slot.
 fn next_place(case: u64, list: u64, slot: u64, place: usize) -> usize
+    requires { place ≤ 511 }
     ensures { result ≤ 511 }
 {
-    if keeps(case, list, slot) {
-        if place < 511 {
-            return place + 1;
-        }
+    if place < 511 && keeps(case, list, slot) {
+        place + 1
+    } else {
+        place
     }
-    place % 512
-}
-
-// The row with its list ended at a place.
-fn ended(l: Lists, place: usize) -> Lists
-    ensures { (result.used ≤ 512) × (1 ≤ result.count) × (result.count ≤ 32) }
-{
-    let mut m = l;
-    let at = l.count % 32;
-    let end = place % 513;
-    m.ends[at] = end as u32;
-    m.count = at + 1;
-    m.used = end;
-    m
 }
 
 // The lists with one more. A candidate is written before it is known whether it stays, and the next
 // one takes its place if it does not.
 fn with_list(l: Lists, case: u64, list: u64) -> Lists
-    ensures { (result.used ≤ 512) × (1 ≤ result.count) × (result.count ≤ 32) }
+    requires { l.used ≤ 511 }
+    ensures { (result.used ≤ 511) × (1 ≤ result.count) × (result.count ≤ 32) }
 {
     let n = offered(case, list);
-    let mut m = l;
-    let mut place = l.used % 512;
-    let mut slot: u64 = 0;
-    while slot < n {
-        m.numbers[place] = narrow(candidate(case, n, slot));
+    let mut numbers = l.numbers;
+    let mut place = l.used;
+    for slot in 0..n {
+        numbers[place] = narrow(candidate(case, n, slot));
         place = next_place(case, list, slot, place);
-        slot += 1;
     }
-    ended(m, place)
+    let mut ends = l.ends;
+    let at = l.count % 32;
+    ends[at] = place as u32;
+    Lists {
+        numbers,
+        ends,
+        count: at + 1,
+        used: place,
+        word: l.word,
+    }
 }
 
 // The row before its first list.
-fn no_lists() -> Lists {
+fn no_lists() -> Lists
+    ensures { result.used ≡ 0 }
+{
     Lists {
         numbers: [0; 512],
         ends: [0; 32],
@@ -271,8 +242,7 @@ fn no_lists() -> Lists {
 
 // The lists with their word.
 fn with_word(l: Lists, case: u64) -> Lists
-    requires { (l.used ≤ 512) × (1 ≤ l.count) × (l.count ≤ 32) }
-    ensures { (result.used ≤ 512) × (1 ≤ result.count) × (result.count ≤ 32) }
+    ensures { (result.used ≡ l.used) × (result.count ≡ l.count) }
 {
     let mut m = l;
     m.word = word_of(case, l);
@@ -281,13 +251,11 @@ fn with_word(l: Lists, case: u64) -> Lists
 
 // So many lists, numbered from a number on, at least one.
 fn lists_from(case: u64, first: u64, n: u64) -> Lists
-    ensures { (result.used ≤ 512) × (1 ≤ result.count) × (result.count ≤ 32) }
+    ensures { (result.used ≤ 511) × (1 ≤ result.count) × (result.count ≤ 32) }
 {
     let mut l = with_list(no_lists(), case, first);
-    let mut k: u64 = 1;
-    while k < n {
-        l = with_list(l, case, std::num::wrapping_add_u64(first, k));
-        k += 1;
+    for k in 1..n {
+        l = with_list(l, case, first.wrapping_add(k));
     }
     l
 }
@@ -306,6 +274,6 @@ pub fn daily_lists(case: u64) -> Lists
 {
     with_word(
         lists_from(case, DAILY_LISTS, daily_count(case)),
-        std::num::wrapping_add_u64(case, DAILY_WORDS),
+        case.wrapping_add(DAILY_WORDS),
     )
 }

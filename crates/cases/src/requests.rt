@@ -2,7 +2,7 @@
 ghost use Rattle.std.specs.Prelude.{◌<◌, ◌≤◌};
 
 use crate::dice::{pick, roll};
-use crate::inputs::{Begin, Calls, Lists, narrow, wide};
+use crate::inputs::{Begin, Calls, Lists, narrow};
 use crate::numbers::{candidate, candidates, is_long};
 
 // What the numbers of this file are drawn for.
@@ -28,100 +28,94 @@ const FAR: u64 = 309;
 
 const LARGEST: u64 = 4294967295;
 
-// The style of a case's calls. Of 100 cases:
-// 0, 24: any codes and arguments. 1, 12: 24 nexts. 2, 12: checks of rising list numbers.
-// 3, 10: at or past and past with falling arguments. 4, 42: any codes with rising arguments, so that
-// the floor does not leave all numbers behind at once. Of 100 cases where one list is far longer, 60 have 5: any codes, the first
-// arguments about 64 numbers of that list apart, where readers hop.
-fn style(case: u64) -> u64 {
-    let p = pick(case, STYLE, 0, 100);
-    if is_long(case) && pick(case, STYLE, 1, 100) < 60 {
-        return 5;
+// The style of a case's calls.
+#[derive(Clone, Copy)]
+enum Style {
+    // Any codes and arguments.
+    Any,
+    // 24 nexts.
+    Nexts,
+    // Checks of rising list numbers.
+    Checks,
+    // At or past and past, with falling arguments.
+    Falling,
+    // Any codes with rising arguments, so that the floor does not leave all numbers behind at once.
+    Rising,
+    // Any codes, the first arguments about 64 numbers of a far longer list apart, where readers hop.
+    Far,
+}
+
+impl Style {
+    // Of 100 cases: any in 24, nexts in 12, checks in 12, falling in 10, rising in 42. Of 100 cases where one list is far longer, 60 are
+    // far.
+    fn of(case: u64) -> Style {
+        if is_long(case) && pick(case, STYLE, 1, 100) < 60 {
+            return Style::Far;
+        }
+        match pick(case, STYLE, 0, 100) {
+            0..24 => Style::Any,
+            24..36 => Style::Nexts,
+            36..48 => Style::Checks,
+            48..58 => Style::Falling,
+            _ => Style::Rising,
+        }
     }
-    if p < 24 {
-        return 0;
-    }
-    if p < 36 {
-        return 1;
-    }
-    if p < 48 {
-        return 2;
-    }
-    if p < 58 {
-        return 3;
-    }
-    4
 }
 
 // 0 to 24 calls, and 24 of them where all are nexts.
-fn count(case: u64) -> usize
+fn count(case: u64, how: Style) -> usize
     ensures { result ≤ 24 }
 {
-    if style(case) == 1 {
-        return 24;
+    match how {
+        Style::Nexts => 24,
+        _ => (roll(case, COUNT, 0) % 25) as usize,
     }
-    (roll(case, COUNT, 0) % 25) as usize
 }
 
 // Any code: next in 38 of 100 calls, check in 30, at or past in 13, past in 13, unknown in 6.
 fn any_code(case: u64, index: u64) -> u8 {
-    let p = pick(case, CODE, index, 100);
-    if p < 38 {
-        return 0;
+    match pick(case, CODE, index, 100) {
+        0..38 => 0,
+        38..68 => 3,
+        68..81 => 1,
+        81..94 => 2,
+        94..96 => 4,
+        96..98 => 5,
+        _ => 255,
     }
-    if p < 68 {
-        return 3;
-    }
-    if p < 81 {
-        return 1;
-    }
-    if p < 94 {
-        return 2;
-    }
-    if p < 96 {
-        return 4;
-    }
-    if p < 98 { 5 } else { 255 }
 }
 
-fn code(case: u64, how: u64, index: u64) -> u8 {
-    if how == 1 {
-        return 0;
+fn code(case: u64, how: Style, index: u64) -> u8 {
+    match how {
+        Style::Nexts => 0,
+        Style::Checks => 3,
+        Style::Falling => (1 + roll(case, CODE, index) % 2) as u8,
+        _ => any_code(case, index),
     }
-    if how == 2 {
-        return 3;
-    }
-    if how == 3 {
-        return (1 + roll(case, CODE, index) % 2) as u8;
-    }
-    any_code(case, index)
 }
 
 // A number of the lists, or any where they have none.
-fn listed(case: u64, index: u64, l: Lists) -> u64
+fn listed(case: u64, index: u64, l: &Lists) -> u64
     ensures { result < 4294967296 }
 {
     let r = roll(case, NUMBER, index);
-    if l.used == 0 {
+    let numbers = l.in_use();
+    if numbers.is_empty() {
         return r;
     }
-    let at = (r % l.used as u64 % 512) as usize;
-    wide(l.numbers[at])
+    u64::from(numbers[(r % numbers.len() as u64) as usize])
 }
 
 // A number, or a neighbour of it where there is one: 20 of 100 each.
 pub fn nudged(case: u64, index: u64, x: u64) -> u64
     ensures { result < 4294967296 }
 {
-    let p = pick(case, NUDGE, index, 100);
     let y = x % 4294967296;
-    if p < 20 {
-        return if y < LARGEST { y + 1 } else { y };
+    match pick(case, NUDGE, index, 100) {
+        0..20 => (y + 1).min(LARGEST),
+        20..40 => y.saturating_sub(1),
+        _ => y,
     }
-    if p < 40 {
-        return if y > 0 { y - 1 } else { y };
-    }
-    y
 }
 
 // Any argument: a list number or its neighbour in 65 of 100 calls, a small one in 20, 0 in 8,
@@ -129,75 +123,48 @@ pub fn nudged(case: u64, index: u64, x: u64) -> u64
 pub fn any_argument(case: u64, index: u64, l: Lists) -> u64
     ensures { result < 4294967296 }
 {
-    let p = pick(case, ARGUMENT, index, 100);
     let r = roll(case, ARGUMENT, 1000 + index % 1000);
-    if p < 65 {
-        return nudged(case, index, listed(case, index, l));
+    match pick(case, ARGUMENT, index, 100) {
+        0..65 => nudged(case, index, listed(case, index, &l)),
+        65..85 => r % 60,
+        85..93 => 0,
+        93..96 => LARGEST,
+        _ => r,
     }
-    if p < 85 {
-        return r % 60;
-    }
-    if p < 93 {
-        return 0;
-    }
-    if p < 96 {
-        return LARGEST;
-    }
-    r
-}
-
-// The lower of two numbers, the second only if it is not below the floor.
-fn lower(best: u64, x: u64, floor: u64) -> u64 {
-    if x >= floor && x < best { x } else { best }
 }
 
 // The least number of the lists that is not below the floor, or 4294967295.
-fn least_from(l: Lists, floor: u64) -> u64 {
-    let mut best = LARGEST;
-    for i in 0..l.used % 513 {
-        best = lower(best, wide(l.numbers[i]), floor);
-    }
-    best
-}
-
-// The higher of two numbers, the second only if it is not above the ceiling.
-fn higher(best: u64, x: u64, ceiling: u64) -> u64 {
-    if x <= ceiling && x > best { x } else { best }
+fn least_from(l: &Lists, floor: u64) -> u64 {
+    let numbers = l.in_use().iter().map(|x| u64::from(*x));
+    numbers.filter(|x| floor <= *x).min().unwrap_or(LARGEST)
 }
 
 // The largest number of the lists that is not above the ceiling, or 0.
-fn largest_to(l: Lists, ceiling: u64) -> u64 {
-    let mut best: u64 = 0;
-    for i in 0..l.used % 513 {
-        best = higher(best, wide(l.numbers[i]), ceiling);
-    }
-    best
+fn largest_to(l: &Lists, ceiling: u64) -> u64 {
+    let numbers = l.in_use().iter().map(|x| u64::from(*x));
+    numbers.filter(|x| *x <= ceiling).max().unwrap_or(0)
 }
 
 // How far apart rising or falling arguments are at least: 0 in 30 of 100 calls, 1 in 55, 2 to 9 else.
 fn jump(case: u64, index: u64) -> u64
     ensures { result ≤ 9 }
 {
-    let p = pick(case, JUMP, index, 100);
-    if p < 30 {
-        return 0;
+    match pick(case, JUMP, index, 100) {
+        0..30 => 0,
+        30..85 => 1,
+        p => 2 + p % 8,
     }
-    if p < 85 {
-        return 1;
-    }
-    2 + p % 8
 }
 
 // A falling argument; the first is any list number.
-fn falling(case: u64, index: u64, last: u64, l: Lists) -> u64 {
-    let j = jump(case, index);
+fn falling(case: u64, index: u64, last: u32, l: &Lists) -> u64 {
     if index == 0 {
         return listed(case, 0, l);
     }
-    if last < j {
-        return 0;
+    match u64::from(last).checked_sub(jump(case, index)) {
+        Some(ceiling) => largest_to(l, ceiling),
+        None => 0,
     }
-    largest_to(l, last - j)
 }
 
 // How many numbers of a far longer list the first far argument leaves behind it, give or take a few: nearly 64 in 40 of 100 cases, so
@@ -206,92 +173,78 @@ fn far_start(case: u64) -> u64
     ensures { result ≤ 61 }
 {
     if pick(case, FAR, 0, 100) < 40 {
-        return 61;
+        61
+    } else {
+        roll(case, FAR, 1) % 61
     }
-    roll(case, FAR, 1) % 61
 }
 
 // A number of the far longer list, or its neighbour, about 64 places behind that of the call before; any argument behind its end.
-fn far(case: u64, index: u64, l: Lists) -> u64
+fn far(case: u64, index: u64, l: &Lists) -> u64
     ensures { result < 4294967296 }
 {
     let i = index % 32;
     let slot = far_start(case) + i * 64 + roll(case, FAR, 2 + i) % 5;
     let n = candidates(case);
     if slot < n {
-        return nudged(case, index, candidate(case, n, slot));
+        nudged(case, index, candidate(case, n, slot))
+    } else {
+        any_argument(case, index, *l)
     }
-    any_argument(case, index, l)
 }
 
 // The argument of a call, after the one of the call before it.
-fn argument(case: u64, how: u64, index: u64, last: u64, l: Lists) -> u64 {
-    let from = last % 4294967296 + jump(case, index);
-    if how == 2 {
-        return least_from(l, from);
+fn argument(case: u64, how: Style, index: u64, last: u32, l: &Lists) -> u64 {
+    let from = u64::from(last) + jump(case, index);
+    match how {
+        Style::Checks => least_from(l, from),
+        Style::Falling => falling(case, index, last, l),
+        Style::Rising => nudged(case, index, least_from(l, from)),
+        Style::Far => far(case, index, l),
+        Style::Any | Style::Nexts => any_argument(case, index, *l),
     }
-    if how == 3 {
-        return falling(case, index, last, l);
-    }
-    if how == 4 {
-        return nudged(case, index, least_from(l, from));
-    }
-    if how == 5 {
-        return far(case, index, l);
-    }
-    any_argument(case, index, l)
 }
 
 // The calls of a run over these lists.
 pub fn calls(case: u64, l: Lists) -> Calls
     ensures { result.count ≤ 24 }
 {
-    let how = style(case);
-    let n = count(case);
-    let mut out = Calls {
-        codes: [0; 32],
-        arguments: [0; 32],
-        count: n,
-    };
-    let mut last: u64 = 0;
-    let mut i: usize = 0;
-    while i < n {
-        last = argument(case, how, i as u64, last, l);
-        out.codes[i] = code(case, how, i as u64);
-        out.arguments[i] = narrow(last);
-        i += 1;
+    let how = Style::of(case);
+    let n = count(case, how);
+    let mut codes = [0; 32];
+    let mut arguments = [0; 32];
+    let mut last = 0;
+    for i in 0..n {
+        last = narrow(argument(case, how, i as u64, last, &l));
+        codes[i] = code(case, how, i as u64);
+        arguments[i] = last;
     }
-    out
+    Calls {
+        codes,
+        arguments,
+        count: n,
+    }
 }
 
 // A bookmark: 0 in 60 of 100 cases, 4294967296 and 4294967295 in 5 each, a list number in 12, one
 // more than a list number in 10, any in 8.
-fn bookmark(case: u64, l: Lists) -> u64
+fn bookmark(case: u64, l: &Lists) -> u64
     ensures { result ≤ 4294967296 }
 {
-    let p = pick(case, BOOKMARK, 0, 100);
-    if p < 60 {
-        return 0;
+    match pick(case, BOOKMARK, 0, 100) {
+        0..60 => 0,
+        60..65 => 4294967296,
+        65..70 => LARGEST,
+        70..82 => listed(case, 1000, l),
+        82..92 => listed(case, 1000, l) + 1,
+        _ => roll(case, BOOKMARK, 1) % 4294967297,
     }
-    if p < 65 {
-        return 4294967296;
-    }
-    if p < 70 {
-        return LARGEST;
-    }
-    if p < 82 {
-        return listed(case, 1000, l);
-    }
-    if p < 92 {
-        return listed(case, 1000, l) + 1;
-    }
-    roll(case, BOOKMARK, 1) % 4294967297
 }
 
 // Where a run over these lists begins.
 pub fn begins(case: u64, l: Lists) -> Begin {
     Begin {
-        bookmark: bookmark(case, l),
+        bookmark: bookmark(case, &l),
     }
 }
 
@@ -300,13 +253,9 @@ pub fn begins(case: u64, l: Lists) -> Begin {
 pub fn breaking(case: u64, count: usize) -> usize
     ensures { result ≤ count }
 {
-    let p = pick(case, BREAK, 0, 100);
-    if p < 15 {
-        return 0;
+    match pick(case, BREAK, 0, 100) {
+        0..15 => 0,
+        15..30 => count,
+        _ => ((roll(case, BREAK, 1) % (count as u64 % 4294967296 + 1)) as usize).min(count),
     }
-    if p < 30 {
-        return count;
-    }
-    let at = (roll(case, BREAK, 1) % (count as u64 % 4294967296 + 1)) as usize;
-    if at < count { at } else { count }
 }

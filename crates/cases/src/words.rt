@@ -2,7 +2,7 @@
 ghost use Rattle.std.specs.Prelude.{◌<◌};
 
 use crate::dice::{pick, roll};
-use crate::inputs::{Lists, end, narrow, start};
+use crate::inputs::{Lists, narrow};
 
 // What the numbers of this file are drawn for.
 const WORD: u64 = 600;
@@ -25,7 +25,7 @@ fn with_bit(word: u32, k: usize, delivered: bool) -> u32 {
     if delivered {
         word | bit(k)
     } else {
-        (word | bit(k)) ^ bit(k)
+        word & !bit(k)
     }
 }
 
@@ -45,20 +45,17 @@ pub fn always(case: u64, count: u64) -> u64
     pick(case, ALWAYS, 0, count)
 }
 
-fn is_empty(l: Lists, k: usize) -> bool {
-    start(l, k) == end(l, k)
+fn is_empty(l: &Lists, k: usize) -> bool {
+    l.start(k) == l.end(k)
 }
 
 // Whether an empty list failed to run: in half of the cases none did, in the others 70 of 100.
 fn fails(case: u64, k: usize) -> bool {
-    if pick(case, FAILS, 0, 100) < 50 {
-        return false;
-    }
-    pick(case, FAILS, 1 + k as u64 % 32, 100) < 70
+    50 <= pick(case, FAILS, 0, 100) && pick(case, FAILS, 1 + k as u64 % 32, 100) < 70
 }
 
 // Whether list k was delivered: every list that has a number was.
-fn comes(case: u64, l: Lists, k: usize) -> bool {
+fn comes(case: u64, l: &Lists, k: usize) -> bool {
     let none = is_empty(l, k) && k as u64 != always(case, l.count as u64);
     !none || !fails(case, k)
 }
@@ -66,8 +63,8 @@ fn comes(case: u64, l: Lists, k: usize) -> bool {
 // A word that agrees with the lists; the bits of lists that are not there are any.
 pub fn word_of(case: u64, l: Lists) -> u32 {
     let mut word = narrow(roll(case, WORD, 0));
-    for k in 0..l.count % 33 {
-        word = with_bit(word, k, comes(case, l, k));
+    for k in 0..l.count {
+        word = with_bit(word, k, comes(case, &l, k));
     }
     word
 }
@@ -75,8 +72,8 @@ pub fn word_of(case: u64, l: Lists) -> u32 {
 // The lists' word with no empty list delivered.
 pub fn none_empty(l: Lists) -> u32 {
     let mut word = l.word;
-    for k in 0..l.count % 33 {
-        word = with_bit(word, k, !is_empty(l, k));
+    for k in 0..l.count {
+        word = with_bit(word, k, !is_empty(&l, k));
     }
     word
 }

@@ -5,27 +5,18 @@
 pub mod evaluated;
 pub mod lent;
 
-use cases::{Bytes, Kept, first_bytes, first_numbers};
-use compare::{MARK, MARK_32, inputs, rows, same_numbers};
-use evaluator::{Change, Lists, Updated};
+use cases::{Bytes, Kept};
+use compare::lent::{Calls, Source, ends_of, lists_of};
+use compare::replies::MARK;
+use compare::rows::{copy, front};
+use compare::{MARK_32, What, inputs};
+use evaluator::{Change, Lists};
+use lent::{Left, Request, Updated};
 
-// The comparisons beside those of a run, by the number that `differs` has where one fails.
-pub const NUMBERS: u32 = 10;
-
-pub const ENDS: u32 = 11;
-
-pub const KEPT: u32 = 12;
-
-pub const COUNT: u32 = 13;
-
-pub const AFRESH: u32 = 14;
-
-pub const TAKEN_BACK: u32 = 15;
-
-// What came out differently, 0 where nothing did, the engine's number, and whether a member came or went.
-#[derive(Drop)]
+// What came out differently, the engine's number, and whether a member came or went.
+#[derive(Clone, Copy)]
 pub struct Outcome {
-    pub differs: u32,
+    pub differs: Option<What>,
     pub number: u32,
     pub came: bool,
     pub went: bool,
@@ -33,249 +24,181 @@ pub struct Outcome {
 
 // What a case is made of: its numbers, of which so many are lent, how the lists lie in them, the expression, the change, and the kept
 // row.
-#[derive(Drop)]
+#[derive(Clone, Copy)]
 pub struct Asked {
-    pub numbers: [u32; 512],
-    pub room: usize,
-    pub lists: Lists,
-    pub expression: Bytes,
-    pub change: Change,
-    pub kept: Kept,
+    numbers: [u32; 512],
+    room: usize,
+    lists: Lists,
+    expression: Bytes,
+    change: Change,
+    kept: Kept,
 }
 
-// The numbers of a case, with marks behind them.
-fn marked(l: cases::Lists) -> [u32; 512] {
-    let numbers = l.numbers;
-    let mut row = [MARK_32; 512];
-    compare::copy(&mut row, first_numbers(&numbers, l.used));
-    row
+impl Asked {
+    pub fn request(&self) -> Request<'_> {
+        Request {
+            source: Source {
+                numbers: front(&self.numbers, self.room),
+                lists: self.lists,
+                packed: front(&self.expression.bytes, self.expression.count),
+            },
+            change: self.change,
+            kept: front(&self.kept.row, self.kept.room),
+            count: self.kept.count,
+        }
+    }
+}
+
+// Copies of a change's rows, which can be changed; marks are behind them.
+#[derive(Clone, Copy)]
+struct Rows {
+    numbers: [u32; 512],
+    lent: usize,
+    kept: [u32; 520],
+    lent_kept: usize,
+}
+
+impl Rows {
+    fn of(numbers: &[u32], kept: &[u32]) -> Rows {
+        let mut rows = Rows {
+            numbers: [MARK_32; 512],
+            lent: numbers.len() % 513,
+            kept: [MARK_32; 520],
+            lent_kept: kept.len() % 521,
+        };
+        copy(&mut rows.numbers, numbers);
+        copy(&mut rows.kept, kept);
+        rows
+    }
+
+    // The engine's change in them: what it hands back, and the rows as they are left.
+    fn updated(mut self, request: Request) -> (Updated, Rows) {
+        let n = self.lent % 513;
+        let k = self.lent_kept % 521;
+        let updated = lent::update(request, &mut self.numbers[..n], &mut self.kept[..k]);
+        (updated, self)
+    }
+
+    fn left(&self, updated: Updated) -> Left<'_> {
+        Left {
+            updated,
+            numbers: front(&self.numbers, self.lent),
+            kept: front(&self.kept, self.lent_kept),
+        }
+    }
+
+    // The evaluator's change in them, beside the engine's.
+    fn evaluated(mut self, request: Request, left: Left) -> Result<(), What> {
+        let n = self.lent % 513;
+        let k = self.lent_kept % 521;
+        evaluated::update(request, left, &mut self.numbers[..n], &mut self.kept[..k])?;
+        Ok(())
+    }
 }
 
 // The kept row of a case: the members that the evaluator finds, marks behind them, and what the generator does to these.
-fn kept_of(case: u64, numbers: &[u32], lists: Lists, packed: &[u8]) -> Kept {
+fn kept_of(case: u64, source: Source) -> Kept {
     let mut row = [MARK_32; 520];
-    let count = evaluator::members(numbers, lists, packed, &mut row[0..512]);
+    let count = evaluator::members(source.numbers, source.lists, source.packed, &mut row[..512]);
     cases::kept_of(case, row, count)
 }
 
 // Case i of the changes. Every eighth has its lists or its expression damaged.
 pub fn asked_of(case: u64) -> Asked {
     let made = inputs(case, case % 8 == 7);
-    let l = made.lists;
-    let expression = made.expression;
-    let bytes = expression.bytes;
-    let change = cases::change_of(case, l);
-    let numbers = marked(l);
-    let lists = compare::lent::lists_of(l);
+    let change = cases::change_of(case, made.lists);
+    let mut numbers = [MARK_32; 512];
+    copy(&mut numbers, front(&made.lists.numbers, made.lists.used));
+    let lists = lists_of(&made.lists);
     let kept = kept_of(
         case,
-        first_numbers(&numbers, change.room),
-        lists,
-        first_bytes(&bytes, expression.count),
+        Source {
+            numbers: front(&numbers, change.room),
+            lists,
+            packed: front(&made.expression.bytes, made.expression.count),
+        },
     );
     Asked {
         numbers,
         room: change.room,
         lists,
-        expression,
+        expression: made.expression,
         change: lent::change_of(change),
         kept,
     }
 }
 
 // Whether a run of a next for each of these members and one more replies them, and then finished.
-fn is_afresh(numbers: &[u32], lists: Lists, packed: &[u8], members: &[u32]) -> bool {
-    let codes = [0u8; 513];
-    let zeros = [0u32; 513];
+fn is_afresh(source: Source, members: &[u32]) -> bool {
     let mut replies = [MARK; 513];
-    let nexts = members.len() % 513 + 1;
-    let ran = compare::lent::run(
-        numbers,
-        lists,
-        packed,
-        compare::lent::first(),
-        first_bytes(&codes, nexts),
-        first_numbers(&zeros, nexts),
-        &mut replies,
-    );
-    ran.number == 0 && compare::evaluated::listed(&replies, members).what == 0
+    let nexts = Calls::nexts(members.len() % 513 + 1);
+    let ran = source.run(compare::lent::first(), nexts, &mut replies);
+    ran.number == 0 && compare::evaluated::listed(&replies, members).is_ok()
 }
 
 // The last end.
-fn used(lists: Lists) -> usize {
-    let ends = lists.ends;
-    if lists.count == 0 {
-        return 0;
-    }
-    let last = (lists.count - 1) % 80;
-    ends[last] as usize
+fn used(lists: &Lists) -> usize {
+    ends_of(lists).last().map_or(0, |end| *end as usize)
 }
 
-fn same_ends(a: Lists, b: Lists) -> bool {
-    let ends = a.ends;
-    let others = b.ends;
-    a.count == b.count && same_numbers(&ends, &others)
+fn same_ends(a: &Lists, b: &Lists) -> bool {
+    a.count == b.count && a.ends == b.ends
 }
 
 // Whether the opposite change of rows that a change has left gives their used parts back.
-fn is_taken_back(
-    numbers: &[u32],
-    lists: Lists,
-    packed: &[u8],
-    c: Change,
-    kept: &[u32],
-    count: usize,
-    left: Updated,
-    left_numbers: &[u32],
-    left_kept: &[u32],
-) -> bool {
-    let mut row = [MARK_32; 512];
-    compare::copy(&mut row, left_numbers);
-    let mut held = [MARK_32; 520];
-    compare::copy(&mut held, left_kept);
-    let n = numbers.len() % 513;
-    let k = kept.len() % 521;
-    let back = lent::update(
-        &mut row[0..n],
-        left.lists,
-        packed,
-        lent::opposite(c),
-        &mut held[0..k],
-        left.count,
-    );
-    let last = used(lists);
-    let same = same_numbers(rows::of_512(&row, last), first_numbers(numbers, last));
-    let same_kept = same_numbers(rows::of_520(&held, count), first_numbers(kept, count));
-    back.number == 0 && back.count == count && same_ends(back.lists, lists) && same && same_kept
+fn is_taken_back(request: Request, left: Left) -> bool {
+    let opposite = Request {
+        source: Source {
+            lists: left.updated.lists,
+            ..request.source
+        },
+        change: lent::opposite(request.change),
+        kept: left.kept,
+        count: left.updated.count,
+    };
+    let (back, rows) = Rows::of(left.numbers, left.kept).updated(opposite);
+    let last = used(&request.source.lists);
+    back.number == 0
+        && back.count == request.count
+        && same_ends(&back.lists, &request.source.lists)
+        && front(&rows.numbers, last) == front(request.source.numbers, last)
+        && front(&rows.kept, request.count) == front(request.kept, request.count)
 }
 
-// What differs of an accepted change from the members drawn afresh, or from the change taken back.
-fn accepted(
-    numbers: &[u32],
-    lists: Lists,
-    packed: &[u8],
-    c: Change,
-    kept: &[u32],
-    count: usize,
-    left: Updated,
-    left_numbers: &[u32],
-    left_kept: &[u32],
-) -> u32 {
-    let members = first_numbers(left_kept, left.count);
-    if !is_afresh(left_numbers, left.lists, packed, members) {
-        return AFRESH;
+// An accepted change beside the members drawn afresh, and the change taken back.
+fn accepted(request: Request, left: Left) -> Result<(), What> {
+    let changed = Source {
+        numbers: left.numbers,
+        lists: left.updated.lists,
+        packed: request.source.packed,
+    };
+    if !is_afresh(changed, front(left.kept, left.updated.count)) {
+        return Err(What::Afresh);
     }
-    if !is_taken_back(
-        numbers,
-        lists,
-        packed,
-        c,
-        kept,
-        count,
-        left,
-        left_numbers,
-        left_kept,
-    ) {
-        return TAKEN_BACK;
+    if !is_taken_back(request, left) {
+        return Err(What::TakenBack);
     }
-    0
+    Ok(())
 }
 
-// What differs of a change from what the evaluator says, which has rows of its own.
-fn differs(
-    numbers: &[u32],
-    lists: Lists,
-    packed: &[u8],
-    c: Change,
-    kept: &[u32],
-    count: usize,
-    left: Updated,
-    left_numbers: &[u32],
-    left_kept: &[u32],
-) -> u32 {
-    let mut row = [MARK_32; 512];
-    compare::copy(&mut row, numbers);
-    let mut held = [MARK_32; 520];
-    compare::copy(&mut held, kept);
-    let n = numbers.len() % 513;
-    let k = kept.len() % 521;
-    let d = evaluated::update(
-        numbers,
-        lists,
-        packed,
-        c,
-        kept,
-        count,
-        &mut row[0..n],
-        &mut held[0..k],
-        left,
-        left_numbers,
-        left_kept,
-    );
-    if d.what != 0 || left.number != 0 {
-        return d.what;
+// A change beside what the evaluator says, which has rows of its own.
+fn hold_against(request: Request, left: Left) -> Result<(), What> {
+    Rows::of(request.source.numbers, request.kept).evaluated(request, left)?;
+    if left.updated.number == 0 {
+        accepted(request, left)?;
     }
-    accepted(
-        numbers,
-        lists,
-        packed,
-        c,
-        kept,
-        count,
-        left,
-        left_numbers,
-        left_kept,
-    )
+    Ok(())
 }
 
-// A change of at most 512 numbers and 520 kept ones, by both.
-fn update_both(
-    numbers: &[u32],
-    lists: Lists,
-    packed: &[u8],
-    c: Change,
-    kept: &[u32],
-    count: usize,
-) -> Outcome {
-    let mut row = [MARK_32; 512];
-    compare::copy(&mut row, numbers);
-    let mut held = [MARK_32; 520];
-    compare::copy(&mut held, kept);
-    let n = numbers.len() % 513;
-    let k = kept.len() % 521;
-    let left = lent::update(&mut row[0..n], lists, packed, c, &mut held[0..k], count);
-    Outcome {
-        differs: differs(
-            numbers,
-            lists,
-            packed,
-            c,
-            kept,
-            count,
-            left,
-            rows::of_512(&row, n),
-            rows::of_520(&held, k),
-        ),
-        number: left.number,
-        came: count < left.count,
-        went: left.count < count,
-    }
-}
-
-// One case of a change.
+// One case of a change, of at most 512 numbers and 520 kept ones, by both.
 pub fn update_case(case: u64) -> Outcome {
-    let a = asked_of(case);
-    let numbers = a.numbers;
-    let x = a.expression;
-    let bytes = x.bytes;
-    let kept = a.kept;
-    let row = kept.row;
-    update_both(
-        first_numbers(&numbers, a.room),
-        a.lists,
-        first_bytes(&bytes, x.count),
-        a.change,
-        first_numbers(&row, kept.room),
-        kept.count,
-    )
+    let asked = asked_of(case);
+    let request = asked.request();
+    let (updated, rows) = Rows::of(request.source.numbers, request.kept).updated(request);
+    Outcome {
+        differs: hold_against(request, rows.left(updated)).err(),
+        number: updated.number,
+        came: request.count < updated.count,
+        went: updated.count < request.count,
+    }
 }

@@ -4,7 +4,7 @@ use Rattle.model.specs.Lists.{lists_from}
 use Rattle.model.specs.Expression.{Tree, size}
 use Rattle.model.specs.Steps as model
 use Rattle.model.specs.Steps.{Check, says, turned, on_yes, on_no, check_node}
-use Rattle.reader.specs.declared.Readers.{Readers}
+use Rattle.reader.specs.declared.readers.Readers.{Readers}
 use Rattle.reader.specs.Rows.{Stands, StandEach}
 use Rattle.reader.specs.Sought.{readers_of}
 use Rattle.checks.specs.declared.CheckResult.{CheckResult}

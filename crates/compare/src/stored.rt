@@ -1,76 +1,79 @@
 // A case's expression and lists by way of their stored forms.
-use crate::lent::{all_delivered, word_there};
-use crate::rows::same_numbers;
-use cases::{Bytes, first_bytes, first_numbers};
+use crate::What;
+use crate::lent::{all_delivered, ends_of, word_there};
+use crate::rows::front;
+use cases::{Bytes, Row};
 use evaluator::Lists;
 
-// An expression packed; `same` where it is accepted, is packed as the generator packs it, and reads back.
-#[derive(Drop)]
-pub struct Packed {
-    pub same: bool,
-    pub expression: Bytes,
+// A case's expression packed by the engine.
+pub fn packed(row: &Row, lists: &Lists) -> Bytes {
+    let mut bytes = [0u8; 64];
+    let nodes = front(&row.bytes, row.count);
+    let written = forms::pack_expression(nodes, lists.count, lists.word, &mut bytes);
+    Bytes {
+        bytes,
+        count: written.count,
+    }
 }
 
-pub fn pack(row: &[u8], lists: Lists) -> Packed {
-    let mut bytes = [0u8; 64];
-    let count = lists.count;
-    let word = lists.word;
-    let written = forms::pack_expression(row, count, word, &mut bytes);
+// The same, where it is accepted, is packed as the generator packs it, and reads back.
+pub fn pack(row: &Row, lists: &Lists) -> Result<Bytes, What> {
+    let made = packed(row, lists);
+    let bytes = front(&made.bytes, made.count);
+    let nodes = front(&row.bytes, row.count);
+    let other = cases::packed(nodes);
     let mut back = [0u8; 48];
-    let packed = first_bytes(&bytes, written.count);
-    let read = forms::unpack_expression(packed, count, word, &mut back);
-    let accepted = written.number == 0 && read.number == 0;
-    let other = cases::packed(row);
-    let other_bytes = other.bytes;
-    let alike = check::same(packed, first_bytes(&other_bytes, other.count));
-    let same = accepted && alike && check::same(first_bytes(&back, read.count), row);
-    Packed {
-        same,
-        expression: Bytes {
-            bytes,
-            count: written.count,
-        },
+    let read = forms::unpack_expression(bytes, lists.count, lists.word, &mut back);
+    let alike = bytes == front(&other.bytes, other.count);
+    if made.count != 0 && read.number == 0 && alike && front(&back, read.count) == nodes {
+        Ok(made)
+    } else {
+        Err(What::Expression)
     }
 }
 
 // Whether a delivery of these lists moves to the old form, and back to the same bytes; or, where a list was not delivered, to none.
-fn is_moved(delivery: &[u8], lists: Lists) -> bool {
+fn is_moved(delivery: &[u8], lists: &Lists) -> bool {
     let mut old = [0u8; 4096];
     let down = convert::downgrade_delivery(delivery, &mut old);
     if !all_delivered(lists) {
         return down.number == 19 && down.count == 0;
     }
     let mut bytes = [0u8; 4096];
-    let up = convert::upgrade_delivery(first_bytes(&old, down.count), &mut bytes);
+    let up = convert::upgrade_delivery(front(&old, down.count), &mut bytes);
     let accepted = down.number == 0 && up.number == 0;
-    accepted && check::same(first_bytes(&bytes, up.count), delivery)
+    accepted && front(&bytes, up.count) == delivery
 }
 
-// Lists written as a delivery; `same` where they are accepted and read back, and the delivery moves between its forms.
-#[derive(Drop)]
+// Whether a delivery reads back as these lists.
+fn is_read(delivery: &[u8], numbers: &[u32], lists: &Lists) -> bool {
+    let mut row = [0u32; 512];
+    let mut stops = [0u32; 32];
+    let read = decode::decode_delivery(delivery, &mut row, &mut stops);
+    read.number == 0
+        && front(&row, read.numbers) == numbers
+        && front(&stops, read.lists) == ends_of(lists)
+        && read.word == word_there(lists)
+}
+
+// Lists written as a delivery.
+#[derive(Clone, Copy)]
 pub struct Delivery {
-    pub same: bool,
     pub bytes: [u8; 4096],
     pub count: usize,
 }
 
-pub fn deliver(numbers: &[u32], lists: Lists) -> Delivery {
+// A delivery of these lists, where they are accepted and read back, and it moves between its forms.
+pub fn deliver(numbers: &[u32], lists: &Lists) -> Result<Delivery, What> {
     let mut bytes = [0u8; 4096];
-    let all = lists.ends;
-    let ends = first_numbers(&all, lists.count);
-    let written = encode::encode_delivery(numbers, ends, lists.word, &mut bytes);
-    let mut row = [0u32; 512];
-    let mut stops = [0u32; 32];
-    let delivery = first_bytes(&bytes, written.count);
-    let read = decode::decode_delivery(delivery, &mut row, &mut stops);
-    let accepted = written.number == 0 && read.number == 0;
-    let same_row = same_numbers(first_numbers(&row, read.numbers), numbers);
-    let same_stops = same_numbers(first_numbers(&stops, read.lists), ends);
-    let same_word = read.word == word_there(lists);
-    let moved = is_moved(delivery, lists);
-    Delivery {
-        same: accepted && same_row && same_stops && same_word && moved,
-        bytes,
-        count: written.count,
+    let written = encode::encode_delivery(numbers, ends_of(lists), lists.word, &mut bytes);
+    let delivery = front(&bytes, written.count);
+    if written.number == 0 && is_read(delivery, numbers, lists) && is_moved(delivery, lists) {
+        Ok(Delivery {
+            bytes,
+            count: written.count,
+        })
+    } else {
+        Err(What::Delivery)
     }
 }

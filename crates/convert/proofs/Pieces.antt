@@ -1,12 +1,11 @@
 -- The pieces of a delivery, and that they are its lists in the other form. Assumes nothing.
-use mathlib.Core.Path.{◌≡◌, refl, sym, ap, ap₂, ◌∙◌, subst}
+use mathlib.Core.Path.{◌≡◌, refl, sym, ap, ◌∙◌, subst}
 use mathlib.Core.Bool.{Bool, true, false}
 use mathlib.Core.List.{List, [], ◌∷◌, ◌++◌}
 use Prim.Native.Nat.{ℕ, suc, ◌+◌, ◌-◌, ◌*◌, ◌^◌, ◌≤◌, ◌<◌}
-use native.Mathlib.Nat.{add-zero}
 use native.Mathlib.Omega.{arith}
 use lib.ListN.{length, get_or, take, drop, length-append}
-use lib.Seq.{take-nil, drop-drop, get_or-drop}
+use lib.Seq.{take-nil, drop-drop}
 use Rattle.model.specs.Fields.{field}
 use Rattle.model.proofs.Bits.{field-length}
 use Rattle.convert.specs.Pieces.{piece, pieces, Rising}
@@ -38,38 +37,44 @@ module _ (b : List Bool) (at end : ℕ) (some : at < end) (there : end ≤ lengt
 
 -- ---- one piece, and those behind it
 
--- the positions of the k-th piece, and of those behind it
-pub record Rise (size n k : ℕ) (stops : List ℕ) : Type 0 where
-  pub some : get_or stops k 0 < get_or stops (k + 1) 0
-  pub inside : get_or stops (k + 1) 0 ≤ 8 * size
-  pub small : get_or stops (k + 1) 0 < 2 ^ 40
-  pub rest : Rising size (n - (k + 1)) (drop (k + 1) stops)
+-- with these positions left, and the next ones without the first of them
+pub record Turn (size : ℕ) (bit : Bool) (b : List Bool) (stops next : List ℕ) (at end : ℕ) : Type 0 where
+  pub some : at < end
+  pub inside : end ≤ 8 * size
+  pub small : end < 2 ^ 40
+  pub rest : Rising size (length next - 1) next
+  pub more : pieces bit b (length stops - 1) stops ≡ piece bit b at end ++ pieces bit b (length next - 1) next
+  pub long : length (pieces bit b (length stops - 1) stops) ≡ length (piece bit b at end) + length (pieces bit b (length next - 1) next)
 
-module _ (n k : ℕ) (stops : List ℕ) (h : k < n) where
-  one_more : n - k ≡ suc (n - (k + 1))
-  one_more = omega arith
-
-  here : get_or (drop k stops) 0 0 ≡ get_or stops k 0
-  here = get_or-drop k stops 0 0 ∙ ap (λ (i : ℕ). get_or stops i 0) (add-zero k)
-
-  pub rising_more : (size : ℕ) → Rising size (n - k) (drop k stops) → Rise size n k stops
-  rising_more size r =
-      let r' : Rising size (suc (n - (k + 1))) (drop k stops) = subst (λ (m : ℕ). Rising size m (drop k stops)) one_more r in
-      let next = get_or-drop k stops 1 0 in
+module _ (size : ℕ) (bit : Bool) (b : List Bool) where
+  first : (at end : ℕ) (stops : List ℕ) → Rising size (length (at ∷ end ∷ stops) - 1) (at ∷ end ∷ stops) → Turn size bit b (at ∷ end ∷ stops) (end ∷ stops) at end
+  unfolding pieces
+  first at end stops r =
+      let two : length (at ∷ end ∷ stops) - 1 ≡ suc (length stops) = omega arith in
+      let one : length stops ≡ length (end ∷ stops) - 1 = omega arith in
+      let rise : Rising size (suc (length stops)) (at ∷ end ∷ stops) = subst (λ (n : ℕ). Rising size n (at ∷ end ∷ stops)) two r in
+      let more : pieces bit b (length (at ∷ end ∷ stops) - 1) (at ∷ end ∷ stops) ≡ piece bit b at end ++ pieces bit b (length (end ∷ stops) - 1) (end ∷ stops) =
+      ap (λ (n : ℕ). pieces bit b n (at ∷ end ∷ stops)) two ∙ ap (λ (n : ℕ). piece bit b at end ++ pieces bit b n (end ∷ stops)) one in
       record {
-        some = omega (arith, here, next, r'.0);
-        inside = omega (arith, next, r'.1);
-        small = omega (arith, next, r'.2);
-        rest = subst (Rising size (n - (k + 1))) (drop-drop 1 k stops) r'.3;
+        some = rise.0;
+        inside = rise.1;
+        small = rise.2;
+        rest = subst (λ (n : ℕ). Rising size n (end ∷ stops)) one rise.3;
+        more = more;
+        long = ap length more ∙ length-append (piece bit b at end) (pieces bit b (length (end ∷ stops) - 1) (end ∷ stops));
       }
 
-  pub pieces_more : (bit : Bool) (b : List Bool) → pieces bit b (n - k) (drop k stops) ≡ piece bit b (get_or stops k 0) (get_or stops (k + 1) 0) ++ pieces bit b (n - (k + 1)) (drop (k + 1) stops)
-  unfolding pieces
-  pieces_more bit b =
-      ap (λ (m : ℕ). pieces bit b m (drop k stops)) one_more
-      ∙ ap₂ (λ (i j : ℕ). piece bit b i j ++ pieces bit b (n - (k + 1)) (drop 1 (drop k stops))) here (get_or-drop k stops 1 0)
-      ∙ ap (λ (l : List ℕ). piece bit b (get_or stops k 0) (get_or stops (k + 1) 0) ++ pieces bit b (n - (k + 1)) l) (drop-drop 1 k stops)
+  -- the first two positions of those that are left, as a window shows them
+  pub turn : (stops next window : List ℕ) {n : ℕ} → n ≡ 2 → n ≤ length stops → window ≡ take n stops → next ≡ drop 1 stops → Rising size (length stops - 1) stops → Turn size bit b stops next (get_or window 0 0) (get_or window 1 0)
+  turn [] next window two h w e r = absurd (omega arith)
+  turn (at ∷ []) next window two h w e r = absurd (omega arith)
+  turn (at ∷ end ∷ stops) next window two h w e r =
+      let shown : window ≡ at ∷ end ∷ [] = w ∙ ap (λ (n : ℕ). take n (at ∷ end ∷ stops)) two in
+      subst (λ (l : List ℕ). Turn size bit b (at ∷ end ∷ stops) l (get_or window 0 0) (get_or window 1 0)) (sym e)
+      (subst (λ (l : List ℕ). Turn size bit b (at ∷ end ∷ stops) (end ∷ stops) (get_or l 0 0) (get_or l 1 0)) (sym shown) (first at end stops r))
 
-pub pieces_none : (n k : ℕ) (stops : List ℕ) (bit : Bool) (b : List Bool) → n ≤ k → pieces bit b (n - k) stops ≡ []
+pub pieces_none : (bit : Bool) (b : List Bool) (stops : List ℕ) → length stops < 2 → pieces bit b (length stops - 1) stops ≡ []
 unfolding pieces
-pieces_none n k stops bit b h = let none : n - k ≡ 0 = omega arith in ap (λ (m : ℕ). pieces bit b m stops) none
+pieces_none bit b [] h = refl
+pieces_none bit b (at ∷ []) h = refl
+pieces_none bit b (at ∷ end ∷ stops) h = absurd (omega arith)

@@ -9,10 +9,20 @@ use lib.ListN.{length, set}
 use Rattle.model.specs.Outcome.{Outcome, refused, accepted, ◌>>=◌}
 use Rattle.model.specs.Delivery.{undelivered, came, list_bits}
 use Rattle.model.proofs.Accepted.{never_accepted, accepted-same}
+use Rattle.std.proofs.Common.{Result, Ok, Err}
+use Rattle.std.specs.Result.{IsErrAnd}
+use Rattle.refusals.specs.declared.Refusal.{Refusal}
+use Rattle.refusals.specs.Numbers.{number}
+use Rattle.convert.specs.declared.Walked.{Walked}
 use Rattle.fields.specs.Rows.{lay}
 use Rattle.fields.proofs.Rows.{lay-set, lay-cons}
 use Rattle.convert.specs.Forms.{ListIn, form_of, lacks, missing}
-use Rattle.convert.specs.Walks.{stops_from, found}
+use Rattle.convert.specs.Walks.{stops_from, walk_says, found}
+
+-- a refusal goes up by `?` as it came
+pub walked_up : (r : Result Walked Refusal) (e : Refusal) → IsErrAnd r (λ y. y ≡ e) → walk_says r ≡ refused (number e)
+walked_up (Ok a) e h = absurd h
+walked_up (Err y) e h = ap (λ (x : Refusal). refused (number x)) h
 
 pub lacks-one : (bit : Bool) (a : ListIn bit) → lacks bit a ≤ 1
 lacks-one true undelivered = omega arith

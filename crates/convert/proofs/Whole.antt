@@ -18,7 +18,6 @@ use Rattle.model.specs.Calls.{written, written_refused, stored, upgrade_delivery
 use Rattle.model.proofs.Bits.{field-length, bits-length}
 use Rattle.fields.specs.Rows.{lay}
 use Rattle.fields.specs.Positions.{take_at as take_position}
-use Rattle.fields.proofs.Rows.{lay-length}
 use Rattle.walk.proofs.Bounds.{lists_next}
 use Rattle.convert.specs.Forms.{ListIn, form_of, as_other, lacks, missing, resized, move_delivery}
 use Rattle.convert.specs.Walks.{stops_from}
@@ -81,39 +80,39 @@ module _ (bit : Bool) where
   moved_lists (a ∷ ls) m = ap₂ (λ (x y : List Bool). x ++ y) (moved-list bit a (omega arith)) (moved_lists ls (omega arith))
 
   -- the positions of the first, and of those behind it
-  first_stop : (at : ℕ) (ls : List (ListIn bit)) (tail : List ℕ) → get_or (stops_from (form_of bit) at ls ++ tail) 0 0 ≡ at
+  first_stop : (at : ℕ) (ls : List (ListIn bit)) → get_or (stops_from (form_of bit) at ls) 0 0 ≡ at
   unfolding stops_from
-  first_stop at [] tail = refl
-  first_stop at (a ∷ ls) tail = refl
+  first_stop at [] = refl
+  first_stop at (a ∷ ls) = refl
 
   pub stops-length : (at : ℕ) (ls : List (ListIn bit)) → length (stops_from (form_of bit) at ls) ≡ suc (length ls)
   unfolding stops_from
   stops-length at [] = refl
   stops-length at (a ∷ ls) = ap suc (stops-length (at + length (list_bits (form_of bit) a)) ls)
 
-  pub stops_rise : (size at : ℕ) (ls : List (ListIn bit)) (tail : List ℕ) → at + length (here ls) ≤ 8 * size → at + length (here ls) < 2 ^ 40 → Rising size (length ls) (stops_from (form_of bit) at ls ++ tail)
+  pub stops_rise : (size at : ℕ) (ls : List (ListIn bit)) → at + length (here ls) ≤ 8 * size → at + length (here ls) < 2 ^ 40 → Rising size (length ls) (stops_from (form_of bit) at ls)
   unfolding stops_from flat_map
-  stops_rise size at [] tail h l = tt
-  stops_rise size at (a ∷ ls) tail h l =
+  stops_rise size at [] h l = tt
+  stops_rise size at (a ∷ ls) h l =
       let next : ℕ = at + length (list_bits (form_of bit) a) in
       let long = length-append (list_bits (form_of bit) a) (here ls) in
-      let stop = first_stop next ls tail in
-      (omega (arith, stop, some_bits bit a), omega (arith, stop, long), omega (arith, stop, long), stops_rise size next ls tail (omega (arith, long)) (omega (arith, long)))
+      let stop = first_stop next ls in
+      (omega (arith, stop, some_bits bit a), omega (arith, stop, long), omega (arith, stop, long), stops_rise size next ls (omega (arith, long)) (omega (arith, long)))
 
-  pub pieces_are : (b : List Bool) (at : ℕ) (ls : List (ListIn bit)) (tail : List ℕ) (rest : List Bool) → drop at b ≡ here ls ++ rest → pieces bit b (length ls) (stops_from (form_of bit) at ls ++ tail) ≡ there ls
+  pub pieces_are : (b : List Bool) (at : ℕ) (ls : List (ListIn bit)) (rest : List Bool) → drop at b ≡ here ls ++ rest → pieces bit b (length ls) (stops_from (form_of bit) at ls) ≡ there ls
   unfolding pieces stops_from flat_map
-  pieces_are b at [] tail rest e = refl
-  pieces_are b at (a ∷ ls) tail rest e =
+  pieces_are b at [] rest e = refl
+  pieces_are b at (a ∷ ls) rest e =
       let this : List Bool = list_bits (form_of bit) a in
       let next : ℕ = at + length this in
       let cut : drop at b ≡ this ++ (here ls ++ rest) = e ∙ append_assoc this (here ls) rest in
       let more : next - at ≡ length this = omega arith in
       let behind : drop next b ≡ here ls ++ rest = sym (drop-drop (length this) at b) ∙ ap (drop (length this)) cut ∙ drop_at this (here ls ++ rest) (length this) refl in
       ap₂ (λ (x y : List Bool). x ++ y)
-      (ap (piece bit b at) (first_stop next ls tail)
+      (ap (piece bit b at) (first_stop next ls)
       ∙ ap₂ (λ (k : ℕ) (l : List Bool). moved bit (take k l)) more cut
       ∙ ap (moved bit) (take_at this (here ls ++ rest) (length this) refl))
-      (pieces_are b next ls tail rest behind)
+      (pieces_are b next ls rest behind)
 
   -- they take one bit less for each, or one more
   lists_resized : (ls : List (ListIn bit)) → Resized bit (length ls) (length (there ls)) (length (here ls))
@@ -139,28 +138,32 @@ module _ (bit : Bool) where
     pub ends : end ≡ 6 + length (here ls)
     pub near : end < 2 ^ 39
     pub inside : end ≤ 8 * length s
-    pub long : length stops ≡ 33
-    pub rise : Rising (length s) n stops
-    pub are : pieces bit (bits s) n stops ≡ there ls
+    pub long : length stops ≡ n + 1
+    pub rise : Rising (length s) (length stops - 1) stops
+    pub are : pieces bit (bits s) (length stops - 1) stops ≡ there ls
 
-  pub cut : (s : List ℕ) (n end : ℕ) (stops : List ℕ) (ls : List (ListIn bit)) → n ≤ 32 → 6 ≤ 8 * length s → read_lists (take_position s) (form_of bit) n none 6 ≡ accepted (ls, end)
-      → stops ≡ lay (replicate 33 0) 0 (stops_from (form_of bit) 6 ls) → Cut s n end stops ls
+  pub cut : (s : List ℕ) (n end : ℕ) (row : List ℕ) (ls : List (ListIn bit)) → n ≤ 32 → 6 ≤ 8 * length s → read_lists (take_position s) (form_of bit) n none 6 ≡ accepted (ls, end)
+      → row ≡ lay (replicate 33 0) 0 (stops_from (form_of bit) 6 ls) → Cut s n end (take (n + 1) row) ls
   unfolding lay
-  cut s n end stops ls few six e es =
+  cut s n end row ls few six e er =
       let w = lists_are bit s n 6 ls end e in
       let a = lists_next (form_of bit) s (ahead bit s) n none 6 (ls, end) e six in
       let at : List ℕ = stops_from (form_of bit) 6 ls in
       let tail : List ℕ = drop (0 + length at) (replicate 33 0) in
       let ends : end ≡ 6 + length (here ls) = omega (arith, ap length w.0, length-append (here ls) (drop end (bits s)), length-drop 6 (bits s), length-drop end (bits s), bits-length s, a.inside) in
       let near : end < 2 ^ 39 = omega (arith, a.near) in
+      let many : length at ≡ n + 1 = omega (arith, stops-length 6 ls, w.1) in
+      let kept : take (n + 1) row ≡ at = ap (take (n + 1)) er ∙ take_at at tail (n + 1) many in
+      let long : length (take (n + 1) row) ≡ n + 1 = ap length kept ∙ many in
+      let last : length ls ≡ length (take (n + 1) row) - 1 = omega (arith, w.1) in
       record {
         many = w.1;
         ends = ends;
         near = near;
         inside = a.inside;
-        long = ap length es ∙ lay-length (replicate 33 0) 0 at (omega (arith, stops-length 6 ls, w.1));
-        rise = subst (Rising (length s) n) (sym es) (subst (λ (k : ℕ). Rising (length s) k (at ++ tail)) w.1 (stops_rise (length s) 6 ls tail (omega (arith, ends, a.inside)) (omega (arith, ends))));
-        are = ap₂ (λ (k : ℕ) (l : List ℕ). pieces bit (bits s) k l) (sym w.1) es ∙ pieces_are (bits s) 6 ls tail (drop end (bits s)) w.0;
+        long = long;
+        rise = subst (λ (k : ℕ). Rising (length s) k (take (n + 1) row)) last (subst (Rising (length s) (length ls)) (sym kept) (stops_rise (length s) 6 ls (omega (arith, ends, a.inside)) (omega (arith, ends))));
+        are = ap₂ (λ (k : ℕ) (l : List ℕ). pieces bit (bits s) k l) (sym last) kept ∙ pieces_are (bits s) 6 ls (drop end (bits s)) w.0;
       }
 
   -- ---- what is handed back

@@ -1,108 +1,80 @@
 // A stored delivery moved from 01's form to the one in which a bit precedes each count, and back. It is walked through once, which
 // tests it and keeps where each list stands; then the bits of each list are copied as they are, behind a bit or without theirs.
-// Both moves are one function, by whether the delivery that is read has the bits.
+// Both moves are one function, by whether the delivery that is read has the bits. That is a bool and no enum of forms: what all
+// clauses here speak of (`form_of`, `piece`, `resized`) is defined over a Bool, to which each would have to map the enum back.
 #![tactic(auto)]
 
 ghost use Rattle.std.specs.Prelude.{◌≡◌, false, ◌+◌, ◌-◌, ◌*◌, ◌/◌, ◌%◌, ◌^◌, ◌≤◌, ◌<◌, length, replicate};
 ghost use Rattle.std.proofs.Math.Option.{none};
-ghost use Rattle.model.specs.Outcome.{number_of};
 ghost use Rattle.model.specs.Fields.{bits};
 ghost use Rattle.model.specs.Delivery.{by_count, read_list, read_lists};
 ghost use Rattle.model.specs.Calls.{written, upgrade_delivery, downgrade_delivery};
+ghost use Rattle.refusals.specs.Numbers.{outcome, written_as};
 ghost use Rattle.fields.specs.Positions.{take_at, put_bits};
-ghost use Rattle.walk.specs.Answers.{read_says, only};
+ghost use Rattle.walk.specs.Answers.{only};
 ghost use Rattle.convert.specs.Forms.{form_of, lacks, resized, move_delivery};
 ghost use Rattle.convert.specs.Walks.{walk_says, found};
 ghost use Rattle.convert.specs.Copies.{copied};
 ghost use Rattle.convert.specs.Pieces.{piece, pieces, Rising, store_pieces};
 
-use fields::Field;
 use model::WriteResult;
-use walk::Read;
+use refusals::Refusal;
 
-// What a walk through all lists found: how many did not come and where the last one ends, or the number of a refusal; and where
-// each of them begins, with the end behind the last.
+// What a walk through all lists found: how many did not come, where the last one ends, and where each of them begins, with the
+// end behind the last.
 #[derive(Drop)]
 struct Walked {
-    read: Read,
+    missing: u32,
+    end: usize,
+    // an array with room for 32 lists, since there is no heap
     stops: [usize; 33],
 }
 
 // Walks through the list whose count stands at the bit position at: it is not missing.
-fn walk_counted(s: &[u8], at: usize) -> Read
+fn walk_counted(s: &[u8], at: usize) -> Result<(u32, usize), Refusal>
     requires { at < 2 ^ 57 }
-    ensures { read_says result ≡ only (lacks false) (read_list (take_at s.now) by_count none at) }
+    ensures { outcome result ≡ only (lacks false) (read_list (take_at s.now) by_count none at) }
 {
-    let Field::Value { value: count, next } = fields::take_field(s, at, 16) else {
-        return Read::Refused(1);
-    };
-    let body = walk::walk_body(s, next, count);
-    let Read::Value {
-        value: _,
-        next: behind,
-    } = body
-    else {
-        return body;
-    };
-    Read::Value {
-        value: 0,
-        next: behind,
-    }
+    let (count, next) = fields::take_field(s, at, 16)?;
+    let (_, behind) = walk::walk_body(s, next, count)?;
+    Ok((0, behind))
 }
 
 // Walks through the list at the bit position at, in either form: 1 if it is missing.
-fn walk_list(s: &[u8], at: usize, bit: bool) -> Read
+fn walk_list(s: &[u8], at: usize, bit: bool) -> Result<(u32, usize), Refusal>
     requires { at < 2 ^ 56 }
-    ensures { read_says result ≡ only (lacks bit) (read_list (take_at s.now) (form_of bit) none at) }
+    ensures { outcome result ≡ only (lacks bit) (read_list (take_at s.now) (form_of bit) none at) }
 {
     if !bit {
         return walk_counted(s, at);
     }
-    let Field::Value { value: came, next } = fields::take_field(s, at, 1) else {
-        return Read::Refused(1);
-    };
+    let (came, next) = fields::take_field(s, at, 1)?;
     if came == 0 {
-        return Read::Value { value: 1, next };
+        return Ok((1, next));
     }
     walk_counted(s, next)
 }
 
 // Walks through n lists behind the number of lists, in either form.
-fn walk_lists(s: &[u8], n: usize, bit: bool) -> Walked
+fn walk_lists(s: &[u8], n: usize, bit: bool) -> Result<Walked, Refusal>
     requires { (n ≤ 32) × (6 ≤ 8 * length s.now) }
     ensures { walk_says result ≡ found bit 0 (replicate 33 0) 0 6 (read_lists (take_at s.now) (form_of bit) n none 6) }
 {
     let mut stops = [0usize; 33];
     let mut missing: u32 = 0;
     let mut next: usize = 6;
-    let mut k: usize = 0;
-    while k < n {
+    for k in 0..n {
         stops[k] = next;
-        let got = walk_list(s, next, bit);
-        let Read::Value {
-            value: lacking,
-            next: behind,
-        } = got
-        else {
-            return Walked { read: got, stops };
-        };
+        let (lacking, behind) = walk_list(s, next, bit)?;
         missing += lacking;
         next = behind;
-        k += 1;
     }
     stops[n] = next;
-    let read = Read::Value {
-        value: missing,
-        next,
-    };
-    Walked { read, stops }
-}
-
-// Two bytes as one number.
-fn both(a: u8, b: u8) -> u32
-    ensures { result ≡ a * 256 + b }
-{
-    (a as u32) * 256 + (b as u32)
+    Ok(Walked {
+        missing,
+        end: next,
+        stops,
+    })
 }
 
 // The eight bits of two bytes that stand ahead of their last `behind`.
@@ -110,10 +82,12 @@ fn middle(a: u8, b: u8, behind: u32) -> u8
     requires { behind ≤ 8 }
     ensures { result ≡ (a * 256 + b) / 2 ^ behind % 256 }
 {
-    ((both(a, b) >> behind) % 256) as u8
+    let both = (a as u32) * 256 + (b as u32);
+    ((both >> behind) % 256) as u8
 }
 
-// Copies w bits, at most 32, from the bit position at to the bit position put; every other bit stays.
+// Copies w bits, at most 32, from the bit position at to the bit position put; every other bit stays. A row and a position in it
+// stay two parameters here and below, as `fields` takes them: no struct would be passed on whole.
 fn copy_field(from: &[u8], at: usize, to: &mut [u8], put: usize, w: usize)
     requires { (w ≤ 32) × (at + w ≤ 8 * length from.now) × (put + w ≤ 8 * length to.old) }
     ensures { to.new ≡ copied from.now at to.old put w }
@@ -128,11 +102,9 @@ fn copy_bytes(from: &[u8], at: usize, to: &mut [u8], first: usize, n: usize)
 {
     let start = at / 8;
     let behind = 8 - (at % 8) as u32;
-    let mut i = 0;
-    while i < n {
+    for i in 0..n {
         let a = start + i;
         to[first + i] = middle(from[a], from[a + 1], behind);
-        i += 1;
     }
 }
 
@@ -178,18 +150,14 @@ fn copy_list(from: &[u8], at: usize, end: usize, bit: bool, to: &mut [u8], put: 
     put + 1 + n
 }
 
-// Copies n lists that stand between these bit positions, as the other form has them, behind the number of lists. Where they end.
-fn copy_lists(from: &[u8], stops: [usize; 33], n: usize, bit: bool, to: &mut [u8]) -> usize
-    requires { (n ≤ 32) × (length stops ≡ 33) × Rising (length from.now) n stops × (6 + length (pieces bit (bits from.now) n stops) ≤ 8 * length to.old) × (6 + length (pieces bit (bits from.now) n stops) < 2 ^ 40) }
-    ensures { (result ≡ 6 + length (pieces bit (bits from.now) n stops)) × (to.new ≡ put_bits to.old 6 (pieces bit (bits from.now) n stops)) }
+// Copies the lists that stand between these bit positions, as the other form has them, behind the number of lists. Where they end.
+fn copy_lists(from: &[u8], stops: &[usize], bit: bool, to: &mut [u8]) -> usize
+    requires { Rising (length from.now) (length stops.now - 1) stops.now × (6 + length (pieces bit (bits from.now) (length stops.now - 1) stops.now) ≤ 8 * length to.old) × (6 + length (pieces bit (bits from.now) (length stops.now - 1) stops.now) < 2 ^ 40) }
+    ensures { (result ≡ 6 + length (pieces bit (bits from.now) (length stops.now - 1) stops.now)) × (to.new ≡ put_bits to.old 6 (pieces bit (bits from.now) (length stops.now - 1) stops.now)) }
 {
     let mut put: usize = 6;
-    let mut k: usize = 0;
-    while k < n {
-        let at = stops[k];
-        let end = stops[k + 1];
-        put = copy_list(from, at, end, bit, to, put);
-        k += 1;
+    for list in stops.windows(2) {
+        put = copy_list(from, list[0], list[1], bit, to, put);
     }
     put
 }
@@ -202,81 +170,60 @@ fn size_of(size: usize, n: usize, bit: bool) -> usize
     if bit { size - n } else { size + n }
 }
 
-// Writes n lists that stand between these bit positions as the other form has them, a delivery of so many bits, into the lent
+// Writes the lists that stand between these bit positions as the other form has them, a delivery of so many bits, into the lent
 // bytes: 19 if any is missing, then 6.
 fn store(
     from: &[u8],
-    stops: [usize; 33],
-    n: u32,
+    stops: &[usize],
     missing: u32,
     bit: bool,
     size: usize,
     to: &mut [u8],
-) -> WriteResult
-    requires { (n ≤ 32) × (length stops ≡ 33) × Rising (length from.now) n stops × (size ≡ 6 + length (pieces bit (bits from.now) n stops)) × (size < 2 ^ 40) }
-    ensures { written result to.new ≡ store_pieces bit from.now n stops missing to.old }
+) -> Result<usize, Refusal>
+    requires { (1 ≤ length stops.now) × (length stops.now ≤ 33) × Rising (length from.now) (length stops.now - 1) stops.now × (size ≡ 6 + length (pieces bit (bits from.now) (length stops.now - 1) stops.now)) × (size < 2 ^ 40) }
+    ensures { written (written_as result) to.new ≡ store_pieces bit from.now (length stops.now - 1) stops.now missing to.old }
 {
     let count = (size + 7) / 8;
     if missing != 0 {
-        return WriteResult::refused(19);
+        return Err(Refusal::ListMissing);
     }
     if to.len() < count {
-        return WriteResult::refused(6);
+        return Err(Refusal::NoRoom);
     }
-    fields::put_field(to, 0, 6, n);
-    let put = copy_lists(from, stops, walk::wide(n), bit, to);
+    fields::put_field(to, 0, 6, (stops.len() - 1) as u32);
+    let put = copy_lists(from, stops, bit, to);
     fields::put_field(to, put, 8 * count - put, 0);
-    WriteResult { number: 0, count }
-}
-
-// The number of a refusal, 0 where there is none.
-fn number_of(read: Read) -> u32
-    ensures { result ≡ number_of (read_says read) }
-{
-    match read {
-        Read::Value { value: _, next: _ } => 0,
-        Read::Refused(number) => number,
-    }
+    Ok(count)
 }
 
 // Moves a stored delivery to the other form.
-fn move_delivery(from: &[u8], bit: bool, to: &mut [u8]) -> WriteResult
-    ensures { written result to.new ≡ move_delivery bit from.now to.old }
+fn move_delivery(from: &[u8], bit: bool, to: &mut [u8]) -> Result<usize, Refusal>
+    ensures { written (written_as result) to.new ≡ move_delivery bit from.now to.old }
 {
-    let Field::Value { value: n, next: _ } = fields::take_field(from, 0, 6) else {
-        return WriteResult::refused(1);
-    };
-    let lists = walk::wide(n);
+    let (n, _) = fields::take_field(from, 0, 6)?;
+    let lists = n as usize;
     if !lists::count_holds(lists) {
-        return WriteResult::refused(7);
+        return Err(Refusal::ListCount);
     }
-    let walked = walk_lists(from, lists, bit);
-    let read = walked.read;
-    let Read::Value {
-        value: missing,
-        next: end,
-    } = read
-    else {
-        return WriteResult::refused(number_of(read));
-    };
-    if !fields::only_fill(from, end) {
-        return WriteResult::refused(5);
+    let walked = walk_lists(from, lists, bit)?;
+    if !fields::only_fill(from, walked.end) {
+        return Err(Refusal::LeftOver);
     }
-    let stops = walked.stops;
-    let size = size_of(end, lists, bit);
-    store(from, stops, n, missing, bit, size, to)
+    let size = size_of(walked.end, lists, bit);
+    let stops = &walked.stops[..lists + 1];
+    store(from, stops, walked.missing, bit, size, to)
 }
 
 // Moves a delivery that is stored in 01's form to the new one, where all its lists are delivered, into the lent bytes.
 pub fn upgrade_delivery(old: &[u8], bytes: &mut [u8]) -> WriteResult
     ensures { written result bytes.new ≡ upgrade_delivery old.now bytes.old }
 {
-    move_delivery(old, false, bytes)
+    refusals::written(move_delivery(old, false, bytes))
 }
 
 // Moves a delivery back to 01's form.
 pub fn downgrade_delivery(bytes: &[u8], old: &mut [u8]) -> WriteResult
     ensures { written result old.new ≡ downgrade_delivery bytes.now old.old }
 {
-    move_delivery(bytes, true, old)
+    refusals::written(move_delivery(bytes, true, old))
 }

@@ -1,259 +1,142 @@
 // The generated cases: how many came out alike by engine and second evaluator, and what they replied in all. One that did not is
 // printed whole.
-use crate::{text, updates as lines};
-use cases::{Bytes, Calls, Kept, Lists, first_bytes, first_numbers};
-use changed::Outcome;
+use crate::text::{Bytes, Spaced};
+use crate::updates::Changes;
+use compare::What;
+use compare::lent::{Calls, ends_of};
+use compare::rows::front;
 use compare::totals::Totals;
-use compare::{Verdict, totals};
-use joined::Stored;
-
-// What came out differently, by the number that `compare` gives it.
-fn what(differs: u32) {
-    match differs {
-        1 => text::put(b"the expression's stored forms"),
-        2 => text::put(b"the delivery"),
-        3 => text::put(b"the number"),
-        4 => text::put(b"the replies"),
-        5 => text::put(b"the bookmark"),
-        6 => text::put(b"the places or moves"),
-        7 => text::put(b"the run broken off"),
-        9 => text::put(b"the bounds"),
-        10 => text::put(b"the numbers"),
-        11 => text::put(b"the ends"),
-        12 => text::put(b"the kept row"),
-        13 => text::put(b"the count"),
-        14 => text::put(b"the members drawn afresh"),
-        15 => text::put(b"the change taken back"),
-        16 => text::put(b"the bytes"),
-        17 => text::put(b"the join the other way round"),
-        18 => text::put(b"the join with itself"),
-        _ => text::put(b"the program's list"),
-    }
-}
-
-fn all_numbers(row: &[u32]) {
-    for i in 0..row.len() {
-        text::spaced(text::wide_32(row[i]));
-    }
-}
-
-fn show_lists(l: Lists) {
-    let numbers = l.numbers;
-    text::put(b": numbers");
-    all_numbers(first_numbers(&numbers, l.used));
-    let ends = l.ends;
-    text::put(b", ends");
-    all_numbers(first_numbers(&ends, l.count));
-    show_word(l.word);
-}
-
-fn show_word(word: u32) {
-    text::with(b", word ", text::wide_32(word));
-}
-
-fn show_calls(c: Calls) {
-    let codes = c.codes;
-    text::put(b", codes");
-    text::nodes(first_bytes(&codes, c.count));
-    let arguments = c.arguments;
-    text::put(b", arguments");
-    all_numbers(first_numbers(&arguments, c.count));
-}
+use std::{fmt, io};
 
 // A case, whole.
-fn show(case: u64, damaged: bool, differs: u32) {
-    text::put(b"case ");
-    text::number(case);
-    text::put(b" differs in ");
-    what(differs);
+fn show<R: Print>(rt: &R, case: u64, damaged: bool, what: What) -> io::Result<()> {
     let made = compare::inputs(case, damaged);
-    let l = made.lists;
-    show_lists(l);
-    show_packed(made.expression);
-    text::put(b", bookmark ");
-    let begin = made.begin;
-    text::number(begin.bookmark);
+    let lists = made.lists;
     let c = cases::calls(case, cases::lists(case));
-    show_calls(c);
-    text::put(b", broken off before call ");
-    text::number(text::wide(cases::breaking(case, c.count)));
-    text::end();
-}
-
-fn compared(case: u64, damaged: bool) -> Verdict {
-    let v = compare::compare_case(case, damaged);
-    if v.differs != 0 {
-        show(case, damaged, v.differs);
-    }
-    v
-}
-
-// The cases 0 to `count`, that one excluded.
-fn sum(count: u64, damaged: bool) -> Totals {
-    let mut t = totals::none();
-    let mut case: u64 = 0;
-    while case < count {
-        t = totals::with_run(t, compared(case, damaged));
-        case += 1;
-    }
-    t
-}
-
-fn show_packed(x: Bytes) {
-    let bytes = x.bytes;
-    text::put(b", packed");
-    text::bytes(first_bytes(&bytes, x.count));
-}
-
-fn show_kept(k: Kept) {
-    let row = k.row;
-    text::put(b", kept");
-    all_numbers(first_numbers(&row, k.room));
-    text::with(b", count ", text::wide(k.count));
+    let calls = Calls::of(&c);
+    println!(rt;
+        "case {case} differs in {what}: numbers{}, ends{}, word {}, packed{}, bookmark {}, codes{}, arguments{}, broken off before call {}",
+        Spaced(front(&lists.numbers, lists.used)),
+        Spaced(front(&lists.ends, lists.count)),
+        lists.word,
+        Bytes(front(&made.expression.bytes, made.expression.count)),
+        made.begin.bookmark,
+        Spaced(calls.codes),
+        Spaced(calls.arguments),
+        cases::breaking(case, c.count)
+    )
 }
 
 // A case of a change, whole.
-fn show_update(case: u64, differs: u32) {
-    text::with(b"case ", case);
-    text::put(b" differs in ");
-    what(differs);
-    let a = changed::asked_of(case);
-    let numbers = a.numbers;
-    text::put(b": numbers");
-    all_numbers(first_numbers(&numbers, a.room));
-    let lists = a.lists;
-    let ends = lists.ends;
-    text::put(b", ends");
-    all_numbers(first_numbers(&ends, lists.count));
-    show_word(lists.word);
-    show_packed(a.expression);
-    lines::change(a.change);
-    show_kept(a.kept);
-    text::end();
+fn show_update<R: Print>(rt: &R, case: u64, what: What) -> io::Result<()> {
+    let asked = changed::asked_of(case);
+    let request = asked.request();
+    let source = request.source;
+    println!(rt;
+        "case {case} differs in {what}: numbers{}, ends{}, word {}, packed{}{}, kept{}, count {}",
+        Spaced(source.numbers),
+        Spaced(ends_of(&source.lists)),
+        source.lists.word,
+        Bytes(source.packed),
+        Changes(request.change),
+        Spaced(request.kept),
+        request.count
+    )
 }
 
-fn updated(case: u64) -> Outcome {
-    let o = changed::update_case(case);
-    if o.differs != 0 {
-        show_update(case, o.differs);
+// A case of two deliveries joined, whole.
+fn show_join<R: Print>(rt: &R, case: u64, what: What) -> io::Result<()> {
+    let pair = joined::pair_of(case);
+    println!(rt;
+        "case {case} differs in {what}: full{}, daily{}",
+        Bytes(pair.full.bytes()),
+        Bytes(pair.daily.bytes())
+    )
+}
+
+// The cases 0 to `count`, that one excluded, each added to the sums.
+fn sum<F: FnMut(&mut Totals, u64) -> io::Result<()>>(count: u64, mut add: F) -> io::Result<Totals>
+    requires { F.IsAlwaysCallable add }
+{
+    let mut totals = Totals::default();
+    for case in 0..count {
+        add(&mut totals, case)?;
     }
-    o
-}
-
-// The changes of the cases 0 to `count`, that one excluded.
-fn sum_updates(count: u64) -> Totals {
-    let mut t = totals::none();
-    let mut case: u64 = 0;
-    while case < count {
-        let o = updated(case);
-        t = totals::with_change(t, o.number, o.differs != 0, o.came, o.went);
-        case += 1;
-    }
-    t
-}
-
-fn show_delivery(name: &[u8], d: Stored) {
-    let bytes = d.bytes;
-    text::put(name);
-    text::bytes(first_bytes(&bytes, d.count));
-}
-
-fn join(case: u64) -> joined::Outcome {
-    let o = joined::join_case(case);
-    if o.differs != 0 {
-        text::with(b"case ", case);
-        text::put(b" differs in ");
-        what(o.differs);
-        let pair = joined::pair_of(case);
-        show_delivery(b": full", pair.full);
-        show_delivery(b", daily", pair.daily);
-        text::end();
-    }
-    o
-}
-
-// The joins of the cases 0 to `count`, that one excluded.
-fn sum_joins(count: u64) -> Totals {
-    let mut t = totals::none();
-    let mut case: u64 = 0;
-    while case < count {
-        let o = join(case);
-        t = totals::with_join(t, o.number, o.differs != 0, o.count);
-        case += 1;
-    }
-    t
-}
-
-fn item(n: u64, name: &[u8]) {
-    text::put(b", ");
-    text::number(n);
-    text::put(name);
-}
-
-fn head(name: &[u8], count: u64, differ: u64) {
-    text::put(name);
-    text::number(count);
-    text::put(b" cases, ");
-    text::number(differ);
-    text::put(b" differ");
+    Ok(totals)
 }
 
 // How many runs each number came to.
-fn print_numbers(numbers: [u64; 22]) {
-    let mut n: usize = 0;
-    while n < 22 {
-        if numbers[n] != 0 {
-            by_number(n, numbers[n]);
+#[derive(Clone, Copy)]
+struct ByNumber<'a>(&'a [u64]);
+
+impl fmt::Display for ByNumber<'_> {
+    fn fmt<W: fmt::Write>(&self, f: &mut fmt::Formatter<W>) -> fmt::Result {
+        for (n, count) in self.0.iter().enumerate() {
+            if *count != 0 {
+                write!(f, "; number {n} {count} times")?;
+            }
         }
-        n += 1;
+        Ok(())
     }
 }
 
-fn by_number(n: usize, count: u64) {
-    text::put(b"; number ");
-    text::number(text::wide(n));
-    text::put(b" ");
-    text::number(count);
-    text::put(b" times");
+fn runs<R: Print>(rt: &R, name: &str, count: u64, damaged: bool) -> io::Result<()> {
+    let t = sum(count, |totals: &mut Totals, case: u64| {
+        let ran = if damaged {
+            compare::compare_damaged(case)
+        } else {
+            compare::compare_case(case)
+        };
+        totals.add_run(&ran);
+        ran.err()
+            .map_or(Ok(()), |what| show(rt, case, damaged, what))
+    })?;
+    println!(rt;
+        "{name}, {count} cases, {} differ, {} members, {} finished, {} yes, {} no, {} unknown, {} moves, {} places{}",
+        t.differ,
+        t.members,
+        t.finished,
+        t.yes,
+        t.no,
+        t.unknown,
+        t.moves,
+        t.places,
+        ByNumber(&t.numbers)
+    )
 }
 
-fn print(name: &[u8], count: u64, damaged: bool) {
-    let t = sum(count, damaged);
-    head(name, count, t.differ);
-    item(t.members, b" members");
-    item(t.finished, b" finished");
-    item(t.yes, b" yes");
-    item(t.no, b" no");
-    item(t.unknown, b" unknown");
-    item(t.moves, b" moves");
-    item(t.places, b" places");
-    let numbers = t.numbers;
-    print_numbers(numbers);
-    text::end();
+fn updates<R: Print>(rt: &R, count: u64) -> io::Result<()> {
+    let t = sum(count, |totals: &mut Totals, case: u64| {
+        let o = changed::update_case(case);
+        totals.add_change(o.number, o.differs.is_some(), o.came, o.went);
+        o.differs.map_or(Ok(()), |what| show_update(rt, case, what))
+    })?;
+    println!(rt;
+        "updates, {count} cases, {} differ, {} members came, {} members went{}",
+        t.differ,
+        t.came,
+        t.went,
+        ByNumber(&t.numbers)
+    )
 }
 
-fn print_updates(count: u64) {
-    let t = sum_updates(count);
-    head(b"updates, ", count, t.differ);
-    item(t.came, b" members came");
-    item(t.went, b" members went");
-    let numbers = t.numbers;
-    print_numbers(numbers);
-    text::end();
+fn joins<R: Print>(rt: &R, count: u64) -> io::Result<()> {
+    let t = sum(count, |totals: &mut Totals, case: u64| {
+        let o = joined::join_case(case);
+        totals.add_join(o.number, o.differs.is_some(), o.count);
+        o.differs.map_or(Ok(()), |what| show_join(rt, case, what))
+    })?;
+    println!(rt;
+        "joins, {count} cases, {} differ, {} bytes{}",
+        t.differ,
+        t.bytes,
+        ByNumber(&t.numbers)
+    )
 }
 
-fn print_joins(count: u64) {
-    let t = sum_joins(count);
-    head(b"joins, ", count, t.differ);
-    item(t.bytes, b" bytes");
-    let numbers = t.numbers;
-    print_numbers(numbers);
-    text::end();
-}
-
-pub fn all() {
-    print(b"generated, ", 100000, false);
-    print(b"damaged, ", 50000, true);
-    print_updates(50000);
-    print_joins(50000);
+pub fn all<R: Print>(rt: &R) -> io::Result<()> {
+    runs(rt, "generated", 100000, false)?;
+    runs(rt, "damaged", 50000, true)?;
+    updates(rt, 50000)?;
+    joins(rt, 50000)
 }

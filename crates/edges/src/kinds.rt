@@ -1,406 +1,302 @@
 // A case of the script by its kind: its fields are read, and the call is made. Each function answers what the line came to.
-use crate::given::Row8;
-use crate::joins::Given;
-use crate::remarks::Line;
-use crate::words::{Form, Numeral};
-use crate::{given, joins, laid, limits, long, marks, programs, runs, stored, updates, words};
+use crate::fault::Fault;
+use crate::joins::Delivery;
+use crate::laid::Laid;
+use crate::line::Fields;
+use crate::outcome::Outcome;
+use crate::stored::Written;
+use crate::{joins, limits, programs, runs, stored, updates};
+use changed::lent::Request;
+use compare::lent::{Calls, Source};
 use evaluator::{Begin, Change, Lists};
+use std::alloc::Global;
+use std::ops::RangeInclusive;
 
-// How many fields a kind of line needs, with the name and the kind itself, and how many it knows. Those that it does not need may be
-// missing from the end of a line on; the default of each is said where it is read, by `words::one_or`. A kind that takes the word of
-// lists has it last.
-#[derive(Drop)]
-struct Bounds {
-    least: usize,
-    most: usize,
+#[derive(Clone, Copy, Debug, PartialEq, Eq)]
+pub enum Kind {
+    Run,
+    Test,
+    Encode,
+    Part,
+    Rows,
+    Update,
+    Bounds,
+    Join,
+    Upgrade,
+    Downgrade,
+    Decode,
+    Members,
+    Unpack,
+    Pack,
 }
 
-fn from(least: usize, most: usize) -> Bounds {
-    Bounds { least, most }
+impl TryFrom<&[u8]> for Kind {
+    type Error = Fault;
+
+    fn try_from(word: &[u8]) -> Result<Kind, Fault> {
+        Ok(match word {
+            b"run" => Kind::Run,
+            b"test" => Kind::Test,
+            b"encode" => Kind::Encode,
+            b"part" => Kind::Part,
+            b"rows" => Kind::Rows,
+            b"update" => Kind::Update,
+            b"bounds" => Kind::Bounds,
+            b"join" => Kind::Join,
+            b"upgrade" => Kind::Upgrade,
+            b"downgrade" => Kind::Downgrade,
+            b"decode" => Kind::Decode,
+            b"members" => Kind::Members,
+            b"unpack" => Kind::Unpack,
+            b"pack" => Kind::Pack,
+            _ => return Err(Fault::Unread),
+        })
+    }
 }
 
-fn fields(kind: &[u8]) -> Bounds {
-    if check::same(kind, b"run") {
-        return from(6, 7);
+impl Kind {
+    // How many fields a line of this kind needs, with the name and the kind itself, and how many it knows. Those that it does not need
+    // may be missing from the end of a line on; the default of each is said where it is read, by `Fields::one_or`.
+    fn fields(self) -> RangeInclusive<usize> {
+        match self {
+            Kind::Run => 6..=7,
+            Kind::Test => 4..=5,
+            Kind::Encode | Kind::Unpack | Kind::Pack => 4..=6,
+            Kind::Part => 5..=6,
+            Kind::Rows => 8..=10,
+            Kind::Update => 10..=11,
+            Kind::Bounds => 4..=4,
+            Kind::Join => 4..=7,
+            Kind::Upgrade | Kind::Downgrade => 3..=4,
+            Kind::Decode | Kind::Members => 4..=5,
+        }
     }
-    if check::same(kind, b"rows") {
-        return from(8, 10);
-    }
-    if check::same(kind, b"test") {
-        return from(4, 5);
-    }
-    if check::same(kind, b"part") {
-        return from(5, 6);
-    }
-    if check::same(kind, b"update") {
-        return from(10, 11);
-    }
-    if check::same(kind, b"bounds") {
-        return from(4, 4);
-    }
-    if check::same(kind, b"join") {
-        return from(4, 7);
-    }
-    fields_of_bytes(kind)
-}
-
-// Of the kinds that have a room.
-fn fields_of_bytes(kind: &[u8]) -> Bounds {
-    if moves(kind) {
-        return from(3, 4);
-    }
-    if check::same(kind, b"decode") || check::same(kind, b"members") {
-        return from(4, 5);
-    }
-    from(4, 6)
-}
-
-// Whether it is a kind that moves a delivery from one form to the other.
-fn moves(kind: &[u8]) -> bool {
-    check::same(kind, b"upgrade") || check::same(kind, b"downgrade")
-}
-
-// A line that lacks a field, or has one that its kind does not know, does not read.
-pub fn case(line: &[u8]) -> Line {
-    let kind = words::field(line, 1);
-    let has = words::field_count(line);
-    let known = fields(kind);
-    if has < known.least || known.most < has {
-        return Line::Unread;
-    }
-    if check::same(kind, b"run") {
-        return run(line);
-    }
-    if lends_lists(kind) {
-        return of_lists(line, kind);
-    }
-    if moves(kind) {
-        return moved(line, kind);
-    }
-    if check::same(kind, b"bounds") {
-        return of_ends(line);
-    }
-    if check::same(kind, b"join") {
-        return joined(line);
-    }
-    of_bytes(line, kind)
-}
-
-// Whether it is a kind whose fields begin with numbers and ends.
-fn lends_lists(kind: &[u8]) -> bool {
-    check::same(kind, b"test")
-        || check::same(kind, b"encode")
-        || check::same(kind, b"part")
-        || check::same(kind, b"rows")
-        || check::same(kind, b"update")
-}
-
-fn size(n: Numeral) -> usize {
-    n.value as usize
-}
-
-// Field k, a room of at most so many places: of so many where it is missing.
-fn room(line: &[u8], k: usize, most: u64) -> Numeral {
-    words::one_or(line, k, most, most)
 }
 
 // The word of lists, the last field that a kind knows: of a line that lacks it, every list was delivered.
-fn word(line: &[u8], kind: &[u8]) -> Numeral {
-    let last = std::num::wrapping_sub_usize(fields(kind).most, 1);
-    words::one_or(line, last, words::TOP, words::TOP)
+fn word(line: Fields, kind: Kind) -> Result<u32, Fault> {
+    let last = kind.fields().end().saturating_sub(1);
+    if line.count() <= last {
+        return Ok(u32::MAX);
+    }
+    line.one_32(last)
+}
+
+// A line that lacks a field, or has one that its kind does not know, does not read.
+pub fn case<R: Print>(rt: &R, alloc: Global, line: Fields) -> Result<Outcome, Fault> {
+    let kind = Kind::try_from(line.field(1))?;
+    if !kind.fields().contains(&line.count()) {
+        return Err(Fault::Unread);
+    }
+    match kind {
+        Kind::Run => run(rt, alloc, line),
+        Kind::Test | Kind::Encode | Kind::Part | Kind::Rows | Kind::Update => {
+            of_lists(rt, alloc, line, kind)
+        }
+        Kind::Bounds => bounds(rt, alloc, line),
+        Kind::Join => join(rt, alloc, line),
+        Kind::Upgrade | Kind::Downgrade => moved(rt, alloc, line, kind),
+        Kind::Decode => decode(rt, alloc, line),
+        Kind::Members => members(rt, alloc, line),
+        Kind::Unpack => unpack(rt, alloc, line),
+        Kind::Pack => pack(rt, alloc, line),
+    }
+}
+
+// An expression in row form, packed.
+fn packed(alloc: Global, nodes: &[u8], lists: &Lists) -> Result<Vec<u8>, Fault> {
+    let mut row = vec![in alloc; 0u8; 80]?;
+    let w = forms::pack_expression(nodes, lists.count, lists.word, &mut row);
+    row.truncate(w.count);
+    if row.is_empty() {
+        return Err(Fault::Unread);
+    }
+    Ok(row)
 }
 
 // name | run | lists | nodes | bookmark | calls [| word], where the nodes read: only `rows` has an expression that is refused
-fn run(line: &[u8]) -> Line {
-    let mut row = [0u32; 65536];
-    let lists = laid::lists(line, 2, &mut row);
-    let word = word(line, b"run");
-    if !lists.good || !word.good {
-        return Line::Unread;
-    }
-    let ends = lists.ends;
-    let end_front = marks::front_32(&ends, lists.count);
-    let lent = evaluator::laid(end_front, given::number_of(word.value));
-    run_of_nodes(line, long::front(&row, lists.numbers), lent)
-}
-
-fn run_of_nodes(line: &[u8], numbers: &[u32], lists: Lists) -> Line {
-    let nodes = given::nodes(line, 3);
-    let bookmark = words::one(line, 4, words::TOP_64);
-    let calls = words::read(line, 5, Form::Calls);
-    if !nodes.good || !bookmark.good || !calls.good {
-        return Line::Unread;
-    }
-    let node_row = nodes.row;
-    let call_row = calls.row;
-    let node_front = marks::front_8(&node_row, nodes.count);
-    if !given::reads(node_front, lists) {
-        return Line::Unread;
-    }
-    runs::run_from(
-        words::field(line, 0),
-        numbers,
+fn run<R: Print>(rt: &R, alloc: Global, line: Fields) -> Result<Outcome, Fault> {
+    let laid = Laid::lists(alloc, line, 2)?;
+    let lists = evaluator::laid(&laid.ends, word(line, Kind::Run)?);
+    let nodes = line.nodes(alloc, 3)?;
+    let begin = Begin {
+        bookmark: line.one(4)?,
+    };
+    let calls = line.calls(alloc, 5)?;
+    let packed = packed(alloc, &nodes, &lists)?;
+    let source = Source {
+        numbers: &laid.numbers,
         lists,
-        node_front,
-        Begin {
-            bookmark: bookmark.value,
-        },
-        marks::front_64(&call_row, calls.count),
-    )
+        packed: &packed,
+    };
+    let calls = Calls {
+        codes: &calls.codes,
+        arguments: &calls.arguments,
+    };
+    Ok(runs::run_from(rt, line.name(), source, begin, calls)?)
 }
 
 // name | kind | numbers | ends, what else the kind has, and [| word]
-fn of_lists(line: &[u8], kind: &[u8]) -> Line {
-    let ends = given::whole(line, 3);
-    let word = word(line, kind);
-    if !ends.good || !word.good {
-        return Line::Unread;
+fn of_lists<R: Print>(rt: &R, alloc: Global, line: Fields, kind: Kind) -> Result<Outcome, Fault> {
+    let ends = line.whole(alloc, 3)?;
+    let lists = evaluator::laid(&ends, word(line, kind)?);
+    let numbers = Laid::numbers(alloc, line, 2)?;
+    match kind {
+        Kind::Test => stored::test(rt, line.name(), &numbers, &lists)?,
+        Kind::Part => stored::part(rt, line.name(), &numbers, &lists, line.size(4)?)?,
+        Kind::Rows => return rows(rt, alloc, line, &numbers, lists),
+        Kind::Update => return update(rt, alloc, line, &numbers, lists),
+        _ => stored::encode(rt, line.name(), &numbers, &lists, line.room(4, 64)?)?,
     }
-    let end_row = ends.row;
-    let end_front = marks::front_32(&end_row, ends.count);
-    let lent = evaluator::laid(end_front, given::number_of(word.value));
-    let mut row = [0u32; 65536];
-    let numbers = laid::numbers(line, 2, &mut row);
-    if !numbers.good {
-        return Line::Unread;
-    }
-    lent_lists(line, kind, long::front(&row, numbers.numbers), lent)
-}
-
-// test | .., rows | .., update | .., part | .. | list number, encode | .. [| room]
-fn lent_lists(line: &[u8], kind: &[u8], numbers: &[u32], lists: Lists) -> Line {
-    let name = words::field(line, 0);
-    if check::same(kind, b"test") {
-        stored::test(name, numbers, lists);
-        return Line::Run;
-    }
-    if check::same(kind, b"rows") {
-        return rows(line, numbers, lists);
-    }
-    if check::same(kind, b"update") {
-        return update(line, numbers, lists);
-    }
-    if check::same(kind, b"part") {
-        return part(line, numbers, lists);
-    }
-    let room = room(line, 4, 64);
-    if !room.good {
-        return Line::Unread;
-    }
-    stored::encode(name, numbers, lists, size(room));
-    Line::Run
-}
-
-fn part(line: &[u8], numbers: &[u32], lists: Lists) -> Line {
-    let k = words::one(line, 4, words::TOP_64);
-    if !k.good {
-        return Line::Unread;
-    }
-    stored::part(words::field(line, 0), numbers, lists, size(k));
-    Line::Run
+    Ok(Outcome::Run)
 }
 
 // rows | numbers | ends | packed | bookmark | codes | arguments [| room]
-fn rows(line: &[u8], numbers: &[u32], lists: Lists) -> Line {
-    let packed = given::bytes(line, 4);
-    let bookmark = words::one(line, 5, words::TOP_64);
-    if !packed.good || !bookmark.good {
-        return Line::Unread;
-    }
-    let row = packed.row;
-    let front = marks::front_8(&row, packed.count);
+fn rows<R: Print>(
+    rt: &R,
+    alloc: Global,
+    line: Fields,
+    numbers: &[u32],
+    lists: Lists,
+) -> Result<Outcome, Fault> {
+    let packed = line.bytes(alloc, 4)?;
     let begin = Begin {
-        bookmark: bookmark.value,
+        bookmark: line.one(5)?,
     };
-    rows_of_calls(line, numbers, lists, front, begin)
-}
-
-fn rows_of_calls(line: &[u8], numbers: &[u32], lists: Lists, packed: &[u8], begin: Begin) -> Line {
-    let codes = given::nodes(line, 6);
-    let arguments = given::whole(line, 7);
-    let room = room(line, 8, 64);
-    if !codes.good || !arguments.good || !room.good {
-        return Line::Unread;
-    }
-    let code_row = codes.row;
-    let argument_row = arguments.row;
-    runs::run_rows(
-        words::field(line, 0),
+    let codes = line.nodes(alloc, 6)?;
+    let arguments = line.whole(alloc, 7)?;
+    let room = line.room(8, 64)?;
+    let source = Source {
         numbers,
         lists,
-        packed,
-        begin,
-        marks::front_8(&code_row, codes.count),
-        marks::front_32(&argument_row, arguments.count),
-        size(room),
-    )
+        packed: &packed,
+    };
+    let calls = Calls {
+        codes: &codes,
+        arguments: &arguments,
+    };
+    Ok(runs::run_rows(rt, line.name(), source, begin, calls, room)?)
 }
 
 // update | numbers | ends | packed | list number | number | add | kept row | count
-fn update(line: &[u8], numbers: &[u32], lists: Lists) -> Line {
-    let packed = given::bytes(line, 4);
-    let list = words::one(line, 5, words::TOP_64);
-    let number = words::one(line, 6, words::TOP);
-    let add = words::one(line, 7, 255);
-    if !packed.good || !list.good || !number.good || !add.good {
-        return Line::Unread;
-    }
-    let row = packed.row;
-    let front = marks::front_8(&row, packed.count);
-    let c = Change {
-        list: size(list),
-        number: given::number_of(number.value),
-        add: (add.value % 256) as u8,
+fn update<R: Print>(
+    rt: &R,
+    alloc: Global,
+    line: Fields,
+    numbers: &[u32],
+    lists: Lists,
+) -> Result<Outcome, Fault> {
+    let packed = line.bytes(alloc, 4)?;
+    let change = Change {
+        list: line.size(5)?,
+        number: line.one_32(6)?,
+        add: line.one_8(7)?,
     };
-    update_of_kept(line, numbers, lists, front, c)
-}
-
-fn update_of_kept(line: &[u8], numbers: &[u32], lists: Lists, packed: &[u8], c: Change) -> Line {
-    let kept = given::whole(line, 8);
-    let count = words::one(line, 9, words::TOP_64);
-    if !kept.good || !count.good {
-        return Line::Unread;
-    }
-    let row = kept.row;
-    updates::update(
-        words::field(line, 0),
-        numbers,
-        lists,
-        packed,
-        c,
-        marks::front_32(&row, kept.count),
-        size(count),
-    )
+    let kept = line.whole(alloc, 8)?;
+    let request = Request {
+        source: Source {
+            numbers,
+            lists,
+            packed: &packed,
+        },
+        change,
+        kept: &kept,
+        count: line.size(9)?,
+    };
+    Ok(updates::update(rt, alloc, line.name(), request)?)
 }
 
 // name | bounds | ends | packed. The call takes no word: every list counts as delivered
-fn of_ends(line: &[u8]) -> Line {
-    let ends = given::whole(line, 2);
-    let packed = given::bytes(line, 3);
-    if !ends.good || !packed.good {
-        return Line::Unread;
-    }
-    let end_row = ends.row;
-    let row = packed.row;
-    limits::bounds(
-        words::field(line, 0),
-        evaluator::laid(marks::front_32(&end_row, ends.count), u32::MAX),
-        marks::front_8(&row, packed.count),
-    )
+fn bounds<R: Print>(rt: &R, alloc: Global, line: Fields) -> Result<Outcome, Fault> {
+    let ends = line.whole(alloc, 2)?;
+    let packed = line.bytes(alloc, 3)?;
+    let lists = evaluator::laid(&ends, u32::MAX);
+    Ok(limits::bounds(rt, line.name(), lists, &packed)?)
 }
 
-// Nodes are packed; every other kind has bytes in hexadecimal.
-fn bytes_of(line: &[u8], kind: &[u8]) -> Row8 {
-    if check::same(kind, b"pack") {
-        return given::nodes(line, 2);
-    }
-    given::bytes(line, 2)
-}
-
-fn most_room(kind: &[u8]) -> u64 {
-    if check::same(kind, b"members") {
-        4096
-    } else {
-        64
-    }
-}
-
-// name | kind | bytes [| room]
-fn moved(line: &[u8], kind: &[u8]) -> Line {
-    let bytes = given::bytes(line, 2);
-    let room = room(line, 3, 64);
-    if !bytes.good || !room.good {
-        return Line::Unread;
-    }
-    let row = bytes.row;
-    stored::moved(
-        words::field(line, 0),
-        kind,
-        marks::front_8(&row, bytes.count),
-        size(room),
-    );
-    Line::Run
-}
-
-// A delivery with so many zero bytes behind it.
-fn with_zeros(r: Row8, zeros: Numeral) -> Given {
-    let row = r.row;
-    Given {
-        row,
-        count: r.count,
-        zeros: size(zeros),
-    }
+// name | kind | bytes [| room]: a delivery moved from its old form to the new one, or back
+fn moved<R: Print>(rt: &R, alloc: Global, line: Fields, kind: Kind) -> Result<Outcome, Fault> {
+    let bytes = line.bytes(alloc, 2)?;
+    let room = line.room(3, 64)?;
+    let (word, w) = match kind {
+        Kind::Upgrade => (
+            "upgrade",
+            Written::of(
+                room,
+                |row: &mut [u8]| convert::upgrade_delivery(&bytes, row),
+            ),
+        ),
+        _ => (
+            "downgrade",
+            Written::of(
+                room,
+                |row: &mut [u8]| convert::downgrade_delivery(&bytes, row),
+            ),
+        ),
+    };
+    stored::moved(rt, line.name(), word, &bytes, room, &w)?;
+    Ok(Outcome::Run)
 }
 
 // name | join | full delivery | daily delivery [| room [| zero bytes behind the full one [| and behind the daily one]]]
-fn joined(line: &[u8]) -> Line {
-    let full = given::bytes(line, 2);
-    let daily = given::bytes(line, 3);
-    let room = room(line, 4, 16384);
-    let full_zeros = words::one_or(line, 5, 65536, 0);
-    let daily_zeros = words::one_or(line, 6, 65536, 0);
-    let zeros = full_zeros.good && daily_zeros.good;
-    if !full.good || !daily.good || !room.good || !zeros {
-        return Line::Unread;
-    }
-    joins::join(
-        words::field(line, 0),
-        with_zeros(full, full_zeros),
-        with_zeros(daily, daily_zeros),
-        size(room),
-    )
+fn join<R: Print>(rt: &R, alloc: Global, line: Fields) -> Result<Outcome, Fault> {
+    let full = line.bytes(alloc, 2)?;
+    let daily = line.bytes(alloc, 3)?;
+    let room = line.room(4, 16384)?;
+    let full = Delivery {
+        bytes: &full,
+        zeros: line.one_or(5, 65536, 0)?,
+    };
+    let daily = Delivery {
+        bytes: &daily,
+        zeros: line.one_or(6, 65536, 0)?,
+    };
+    Ok(joins::join(rt, alloc, line.name(), full, daily, room)?)
 }
 
-// name | kind | bytes | a number [| room]
-fn of_bytes(line: &[u8], kind: &[u8]) -> Line {
-    let bytes = bytes_of(line, kind);
-    let n = words::one(line, 3, words::TOP_64);
-    let room = room(line, 4, most_room(kind));
-    if !bytes.good || !n.good || !room.good {
-        return Line::Unread;
+// decode | bytes | room for numbers [| room for ends]
+fn decode<R: Print>(rt: &R, alloc: Global, line: Fields) -> Result<Outcome, Fault> {
+    let bytes = line.bytes(alloc, 2)?;
+    let room = line.size(3)?;
+    let end_room = line.room(4, 64)?;
+    if 64 < room {
+        return Err(Fault::Unread);
     }
-    let row = bytes.row;
-    lent_bytes(
-        line,
-        kind,
-        marks::front_8(&row, bytes.count),
-        size(n),
-        size(room),
-    )
+    stored::decode(rt, line.name(), &bytes, room, end_room)?;
+    Ok(Outcome::Run)
 }
 
-// members | input | zero bytes behind it [| room], decode | .. | room [| room], others | .. | number of lists [| room]
-fn lent_bytes(line: &[u8], kind: &[u8], bytes: &[u8], n: usize, room: usize) -> Line {
-    let name = words::field(line, 0);
-    if check::same(kind, b"members") {
-        return programs::list(name, bytes, n, room);
+// members | input | zero bytes behind it [| room]
+fn members<R: Print>(rt: &R, alloc: Global, line: Fields) -> Result<Outcome, Fault> {
+    let bytes = line.bytes(alloc, 2)?;
+    let zeros = line.size(3)?;
+    let room = line.room(4, 4096)?;
+    if 65536 < zeros {
+        return Err(Fault::Unread);
     }
-    if check::same(kind, b"decode") && n <= 64 {
-        stored::decode(name, bytes, n, room);
-        return Line::Run;
-    }
-    let word = word(line, kind);
-    if !word.good {
-        return Line::Unread;
-    }
-    read_over(
-        name,
-        kind,
-        bytes,
-        given::counted(n, given::number_of(word.value)),
-        room,
-    )
+    Ok(programs::list(rt, alloc, line.name(), &bytes, zeros, room)?)
+}
+
+// So many lists, of which only their number and the word count.
+fn counted(line: Fields, kind: Kind) -> Result<Lists, Fault> {
+    Ok(Lists {
+        ends: [0; 80],
+        count: line.size(3)?,
+        word: word(line, kind)?,
+    })
 }
 
 // unpack and pack | .. | number of lists [| room [| word]]
-fn read_over(name: &[u8], kind: &[u8], bytes: &[u8], lists: Lists, room: usize) -> Line {
-    if check::same(kind, b"unpack") {
-        stored::unpack(name, bytes, lists, room);
-        return Line::Run;
-    }
-    if check::same(kind, b"pack") {
-        stored::pack(name, bytes, lists, room);
-        return Line::Run;
-    }
-    Line::Unread
+fn unpack<R: Print>(rt: &R, alloc: Global, line: Fields) -> Result<Outcome, Fault> {
+    let bytes = line.bytes(alloc, 2)?;
+    let lists = counted(line, Kind::Unpack)?;
+    stored::unpack(rt, line.name(), &bytes, &lists, line.room(4, 64)?)?;
+    Ok(Outcome::Run)
+}
+
+fn pack<R: Print>(rt: &R, alloc: Global, line: Fields) -> Result<Outcome, Fault> {
+    let nodes = line.nodes(alloc, 2)?;
+    let lists = counted(line, Kind::Pack)?;
+    stored::pack(rt, line.name(), &nodes, &lists, line.room(4, 64)?)?;
+    Ok(Outcome::Run)
 }

@@ -3,24 +3,30 @@
 // sums.
 #![tactic(auto)]
 
+mod fault;
 mod generated;
-mod given;
 mod joins;
 mod kinds;
 mod laid;
 mod limits;
-mod long;
-mod marks;
+mod line;
+mod outcome;
 mod programs;
-mod remarks;
 mod runs;
 mod script;
 mod stored;
 mod text;
 mod updates;
-mod words;
 
-fn main() {
-    script::all();
-    generated::all();
+use std::io;
+
+// The script's lines, then the generated cases.
+fn lines(rt: &HostRuntime) -> io::Result<()> {
+    script::all(rt, rt.alloc())?;
+    generated::all(rt)
+}
+
+fn main(rt: HostRuntime) {
+    // where a line cannot be written there is nobody to tell
+    let _written = lines(&rt).is_ok();
 }

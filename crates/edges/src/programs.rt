@@ -1,56 +1,77 @@
 // The work of the program `members`: the input, and the members or the refusal.
-use crate::remarks::Line;
-use crate::{long, remarks, text};
-use cases::{first_bytes, first_numbers};
+use crate::fault::Fault;
+use crate::outcome::Outcome;
+use crate::text::{Bytes, Counted, MARK_32, Numbers, Refused, RowsHold};
 use compare::evaluated;
-use compare::evaluated::Difference;
+use compare::rows::{front, hold};
 use model::MembersResult;
+use std::alloc::Global;
+use std::fmt;
 
-// An input of at most 80 bytes with at most 65,536 zero bytes behind it, and a row of at most 4,096 places for its members.
-// With more zero bytes the line does not read.
-pub fn list(name: &[u8], front: &[u8], zeros: usize, room: usize) -> Line {
-    if 65536 < zeros {
-        return Line::Unread;
-    }
-    let row = long::padded(front);
-    let length = std::num::wrapping_add_usize(front.len(), zeros);
-    listed(name, first_bytes(&row, length), room)
-}
-
-fn listed(name: &[u8], input: &[u8], room: usize) -> Line {
-    let mut row = [text::MARK_32; 4096];
+// An input of some bytes with zero bytes behind it, and a row of at most 4,096 places for its members.
+pub fn list<R: Print>(
+    rt: &R,
+    alloc: Global,
+    name: &[u8],
+    bytes: &[u8],
+    zeros: usize,
+    room: usize,
+) -> Result<Outcome, Fault> {
+    let mut input = bytes.to_vec(alloc)?;
+    input.resize(bytes.len().wrapping_add(zeros), 0)?;
+    let mut row = [MARK_32; 4096];
     let n = room % 4097;
-    let r = listing::list_members(input, &mut row[0..n]);
-    text::put(name);
-    input_text(input);
-    text::with(b", into ", text::wide(room));
-    outcome(r, &row);
-    remarks::end(evaluate(input, n, r, &row))
+    let result = listing::list_members(&input, &mut row[..n]);
+    let members = front(&row, result.count);
+    let said = evaluated::input(&input, n, result.number, members);
+    let outcome = said.map_or(Outcome::Run, Outcome::from);
+    let listed = Listed { result, row: &row };
+    rt.write_all(name)?;
+    println!(rt;
+        ", members{}, into {room}: {listed}{outcome}",
+        Input(&input)
+    )?;
+    Ok(outcome)
 }
 
 // Of a long input only its size.
-fn input_text(input: &[u8]) {
-    text::put(b", members");
-    if 80 < input.len() {
-        text::put(b" of ");
-        text::counted(input.len(), b"byte");
-        return;
+#[derive(Clone, Copy)]
+struct Input<'a>(&'a [u8]);
+
+impl fmt::Display for Input<'_> {
+    fn fmt<W: fmt::Write>(&self, f: &mut fmt::Formatter<W>) -> fmt::Result {
+        if 80 < self.0.len() {
+            write!(f, " of {}", Counted(self.0.len(), "byte"))
+        } else {
+            write!(f, "{}", Bytes(self.0))
+        }
     }
-    text::bytes(input);
 }
 
-fn outcome(r: MembersResult, row: &[u32; 4096]) {
-    text::put(b": ");
-    if r.number == 0 {
-        text::counted(r.count, b"member");
-        text::numbers(first_numbers(row, r.count));
-        text::with(b", moves ", text::wide_32(r.moves));
-    } else {
-        text::refused(r.number, r.count == 0 && r.moves == 0);
-    }
-    text::rows(compare::hold(row, r.count, text::MARK_32));
+#[derive(Clone, Copy)]
+struct Listed<'a> {
+    result: MembersResult,
+    row: &'a [u32],
 }
 
-fn evaluate(input: &[u8], room: usize, r: MembersResult, row: &[u32; 4096]) -> Difference {
-    evaluated::input(input, room, r.number, r.count, row)
+impl fmt::Display for Listed<'_> {
+    fn fmt<W: fmt::Write>(&self, f: &mut fmt::Formatter<W>) -> fmt::Result {
+        let r = self.result;
+        if r.number == 0 {
+            let members = Numbers(front(self.row, r.count));
+            write!(
+                f,
+                "{}{members}, moves {}",
+                Counted(r.count, "member"),
+                r.moves
+            )?;
+        } else {
+            let refused = Refused {
+                number: r.number,
+                others_are_zero: r.count == 0 && r.moves == 0,
+            };
+            write!(f, "{refused}")?;
+        }
+        write!(f, "{}", RowsHold(hold(self.row, r.count, &MARK_32)))
+    }
 }

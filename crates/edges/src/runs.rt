@@ -1,187 +1,159 @@
 // A run as one case: what is handed in, each call with its reply, and what is handed back.
-use crate::remarks::Line;
-use crate::{given, marks, remarks, text};
-use compare::{all_64, evaluated, lent, rows};
-use evaluator::{Begin, Lists};
+use crate::outcome::Outcome;
+use crate::text::{Braced, Bytes, Lent, MARK_64, Numbers, Refused, RowsHold, Spaced, Word};
+use compare::evaluated;
+use compare::lent::{Calls, Source};
+use compare::replies::Reply;
+use compare::rows::{are_moves, front, hold, rest, total};
+use evaluator::Begin;
 use model::RunResult;
+use std::{fmt, io};
 
-// A run of lists, an expression in row form and calls.
-pub fn run_from(
-    name: &[u8],
-    numbers: &[u32],
-    lists: Lists,
-    nodes: &[u8],
-    begin: Begin,
-    calls: &[u64],
-) -> Line {
-    text::put(name);
-    text::put(b",");
-    text::lists(numbers, lists);
-    text::word(lists);
-    if begin.bookmark != 0 {
-        text::with(b", bookmark ", begin.bookmark);
-    }
-    of_calls(numbers, lists, nodes, begin, calls)
+// What the engine handed back of a run, the reply row, and how many nodes the expression has.
+#[derive(Clone, Copy)]
+struct Ran<'a> {
+    result: RunResult,
+    calls: Calls<'a>,
+    replies: [u64; 64],
+    nodes: usize,
 }
 
-fn of_calls(numbers: &[u32], lists: Lists, nodes: &[u8], begin: Begin, calls: &[u64]) -> Line {
-    let given_codes = given::codes(calls);
-    let code_row = given_codes.row;
-    let given_arguments = given::arguments(calls);
-    let argument_row = given_arguments.row;
-    let given_packed = given::packed(nodes, lists);
-    let packed_row = given_packed.row;
-    let codes = marks::front_8(&code_row, given_codes.count);
-    let arguments = marks::front_32(&argument_row, given_arguments.count);
-    let packed = marks::front_8(&packed_row, given_packed.count);
-    outcome(numbers, lists, packed, begin, codes, arguments, 64)
+// A run of lists, an expression and calls, where the expression reads.
+pub fn run_from<R: Print>(
+    rt: &R,
+    name: &[u8],
+    source: Source,
+    begin: Begin,
+    calls: Calls,
+) -> io::Result<Outcome> {
+    let lists = Braced(source.numbers, &source.lists);
+    rt.write_all(name)?;
+    print!(rt; ",{lists}{}", Word(source.lists.word))?;
+    if begin.bookmark != 0 {
+        print!(rt; ", bookmark {}", begin.bookmark)?;
+    }
+    outcome(rt, source, begin, calls, 64)
 }
 
 // A run of the rows themselves, with a reply row of so many elements, at most 64.
-pub fn run_rows(
+pub fn run_rows<R: Print>(
+    rt: &R,
     name: &[u8],
-    numbers: &[u32],
-    lists: Lists,
-    packed: &[u8],
+    source: Source,
     begin: Begin,
-    codes: &[u8],
-    arguments: &[u32],
+    calls: Calls,
     room: usize,
-) -> Line {
-    text::put(name);
-    text::put(b", run");
-    text::lent(numbers, lists);
-    text::put(b", packed");
-    text::bytes(packed);
-    text::with(b", bookmark ", begin.bookmark);
-    text::put(b", codes");
-    text::nodes(codes);
-    text::put(b", arguments");
-    text::numbers(arguments);
-    text::with(b", replies ", text::wide(room));
-    outcome(numbers, lists, packed, begin, codes, arguments, room)
-}
-
-// The run, by the engine and by the evaluator, and the rest of its line.
-fn outcome(
-    numbers: &[u32],
-    lists: Lists,
-    packed: &[u8],
-    begin: Begin,
-    codes: &[u8],
-    arguments: &[u32],
-    room: usize,
-) -> Line {
-    let mut replies = [text::MARK_64; 64];
-    let n = room % 65;
-    let ran = lent::run(
-        numbers,
-        lists,
-        packed,
-        begin,
-        codes,
-        arguments,
-        &mut replies[0..n],
-    );
-    came_back(ran, node_count(packed, lists), codes, arguments, &replies);
-    remarks::end(evaluated::run(
-        numbers,
-        lists,
-        packed,
-        begin,
-        codes,
-        arguments,
-        n,
-        ran,
-        all_64(&replies),
-    ))
-}
-
-// What the engine handed back, and whether it left the reply row behind its replies alone.
-fn came_back(ran: RunResult, nodes: usize, codes: &[u8], arguments: &[u32], replies: &[u64; 64]) {
-    text::put(b": ");
-    if ran.number == 0 {
-        replied(codes, arguments, replies);
-        handed_back(ran, nodes);
-        changed(replies, codes.len());
-        return;
-    }
-    text::refused(ran.number, other_parts_zero(ran));
-    changed(replies, 0);
-}
-
-fn changed(replies: &[u64; 64], from: usize) {
-    text::rows(marks::hold_64(replies, from));
+) -> io::Result<Outcome> {
+    rt.write_all(name)?;
+    print!(rt;
+        ", run{}, packed{}, bookmark {}, codes{}, arguments{}, replies {room}",
+        Lent(source.numbers, &source.lists),
+        Bytes(source.packed),
+        begin.bookmark,
+        Spaced(calls.codes),
+        Numbers(calls.arguments)
+    )?;
+    outcome(rt, source, begin, calls, room)
 }
 
 // How many nodes a packed expression has.
-fn node_count(packed: &[u8], lists: Lists) -> usize {
+fn node_count(source: Source) -> usize {
     let mut row = [0u8; 48];
-    forms::unpack_expression(packed, lists.count, lists.word, &mut row).count
+    let lists = source.lists;
+    forms::unpack_expression(source.packed, lists.count, lists.word, &mut row).count
 }
 
-fn other_parts_zero(ran: RunResult) -> bool {
-    let places = ran.places;
-    if ran.moves != 0 {
-        return false;
-    }
-    if ran.bookmark != 0 {
-        return false;
-    }
-    rows::total(places) == 0
+// The run, by the engine and by the evaluator, and the rest of its line.
+fn outcome<R: Print>(
+    rt: &R,
+    source: Source,
+    begin: Begin,
+    calls: Calls,
+    room: usize,
+) -> io::Result<Outcome> {
+    let mut replies = [MARK_64; 64];
+    let n = room % 65;
+    let result = source.run(begin, calls, &mut replies[..n]);
+    let said = evaluated::run(source, begin, calls, n, &result, &replies);
+    let outcome = Outcome::from(said);
+    let ran = Ran {
+        result,
+        calls,
+        replies,
+        nodes: node_count(source),
+    };
+    println!(rt; ": {ran}{outcome}")?;
+    Ok(outcome)
 }
 
-fn replied(codes: &[u8], arguments: &[u32], replies: &[u64; 64]) {
-    if codes.len() == 0 {
-        text::put(b"no call");
-    }
-    each_call(codes, arguments, replies);
-}
-
-fn each_call(codes: &[u8], arguments: &[u32], replies: &[u64]) {
-    for i in 0..codes.len() {
-        if i < arguments.len() {
-            call(i, codes[i], arguments[i]);
+// What the engine handed back, and whether it left the reply row behind its replies alone.
+impl fmt::Display for Ran<'_> {
+    fn fmt<W: fmt::Write>(&self, f: &mut fmt::Formatter<W>) -> fmt::Result {
+        if self.result.number != 0 {
+            let refused = Refused {
+                number: self.result.number,
+                others_are_zero: self.other_parts_zero(),
+            };
+            return write!(f, "{refused}{}", self.rows_hold(0));
         }
-        if i < replies.len() {
-            text::reply(replies[i]);
+        let replied = Replied(self.calls, &self.replies);
+        let places = front(&self.result.places, self.nodes);
+        write!(f, "{replied}; bookmark {}", self.result.bookmark)?;
+        write!(f, ", moves {}, places{}", self.result.moves, Spaced(places))?;
+        if !hold(rest(&self.result.places, self.nodes), 0, &0) {
+            f.write_str(", a place behind the nodes is not 0")?;
         }
+        if !are_moves(&self.result.places, self.result.moves) {
+            f.write_str(", the moves are not those of hops and single moves")?;
+        }
+        write!(f, "{}", self.rows_hold(self.calls.codes.len()))
     }
 }
 
-fn call(i: usize, code: u8, d: u32) {
-    if 0 < i {
-        text::put(b", ");
+impl Ran<'_> {
+    fn other_parts_zero(&self) -> bool {
+        let ran = self.result;
+        ran.moves == 0 && ran.bookmark == 0 && total(&ran.places) == 0
     }
-    match code {
-        0 => text::put(b"next"),
-        1 => text::with(b"at or past ", text::wide_32(d)),
-        2 => text::with(b"past ", text::wide_32(d)),
-        3 => text::with(b"check ", text::wide_32(d)),
-        _ => text::with(b"code ", text::wide_8(code)),
-    }
-    text::put(b" -> ");
-}
 
-// The bookmark, the moves, and the places of the nodes that there are.
-fn handed_back(ran: RunResult, nodes: usize) {
-    let places = ran.places;
-    text::with(b"; bookmark ", ran.bookmark);
-    text::with(b", moves ", text::wide_32(ran.moves));
-    text::put(b", places");
-    first_places(&places, nodes);
-    if rows::sum(&places, nodes) != 0 {
-        text::put(b", a place behind the nodes is not 0");
-    }
-    if !rows::are_moves(places, ran.moves) {
-        text::put(b", the moves are not those of hops and single moves");
+    fn rows_hold(&self, from: usize) -> RowsHold {
+        RowsHold(hold(&self.replies, from, &MARK_64))
     }
 }
 
-fn first_places(places: &[u16], nodes: usize) {
-    for i in 0..places.len() {
-        if i < nodes {
-            text::spaced(text::wide_16(places[i]));
+// Each call with its reply.
+#[derive(Clone, Copy)]
+struct Replied<'a>(Calls<'a>, &'a [u64]);
+
+impl fmt::Display for Replied<'_> {
+    fn fmt<W: fmt::Write>(&self, f: &mut fmt::Formatter<W>) -> fmt::Result {
+        if self.0.codes.is_empty() {
+            f.write_str("no call")?;
+        }
+        let calls = self.0.codes.iter().zip(self.0.arguments);
+        for (i, ((code, argument), reply)) in calls.zip(self.1).enumerate() {
+            if 0 < i {
+                f.write_str(", ")?;
+            }
+            let call = Call(*code, *argument);
+            let reply = Reply::from(*reply);
+            write!(f, "{call} -> {reply}")?;
+        }
+        Ok(())
+    }
+}
+
+#[derive(Clone, Copy)]
+struct Call(u8, u32);
+
+impl fmt::Display for Call {
+    fn fmt<W: fmt::Write>(&self, f: &mut fmt::Formatter<W>) -> fmt::Result {
+        match self {
+            Call(0, _) => f.write_str("next"),
+            Call(1, d) => write!(f, "at or past {d}"),
+            Call(2, d) => write!(f, "past {d}"),
+            Call(3, d) => write!(f, "check {d}"),
+            Call(code, _) => write!(f, "code {code}"),
         }
     }
 }

@@ -1,169 +1,138 @@
-// Words and numbers on standard output, a line for each case.
-use cases::first_numbers;
+// What lines are made of: rows, lists, refusals and replies as they are printed.
+use compare::lent::ends_of;
 use evaluator::Lists;
+use std::fmt;
 
 // What every lent element holds before a call, by its width. No case hands these numbers in.
 pub const MARK: u8 = 170;
 
 pub const MARK_32: u32 = compare::MARK_32;
 
-pub const MARK_64: u64 = compare::MARK;
-
-// An index, a place and a byte as the number that is printed.
-pub fn wide(x: usize) -> u64 {
-    x as u64
-}
-
-pub fn wide_32(x: u32) -> u64 {
-    x as u64
-}
-
-pub fn wide_16(x: u16) -> u64 {
-    x as u64
-}
-
-pub fn wide_8(x: u8) -> u64 {
-    x as u64
-}
-
-pub fn put(words: &[u8]) {
-    io::write_all(1, words);
-}
-
-pub fn number(n: u64) {
-    io::print_decimal(1, n);
-}
-
-// Words and a number behind them.
-pub fn with(words: &[u8], n: u64) {
-    put(words);
-    number(n);
-}
-
-pub fn end() {
-    put(b"\n");
-}
+pub const MARK_64: u64 = compare::replies::MARK;
 
 // A count and what it counts, with the plural's s where it is not 1.
-pub fn counted(n: usize, what: &[u8]) {
-    number(wide(n));
-    put(b" ");
-    put(what);
-    if n != 1 {
-        put(b"s");
+#[derive(Clone, Copy)]
+pub struct Counted(pub usize, pub &'static str);
+
+impl fmt::Display for Counted {
+    fn fmt<W: fmt::Write>(&self, f: &mut fmt::Formatter<W>) -> fmt::Result {
+        let plural = if self.0 == 1 { "" } else { "s" };
+        write!(f, "{} {}{plural}", self.0, self.1)
     }
 }
 
 // What a refusal sends back, which has no other part than its number; else it says so.
-pub fn refused(n: u32, others_are_zero: bool) {
-    with(b"refused ", wide_32(n));
-    if !others_are_zero {
-        put(b", with a part that is not 0");
-    }
+#[derive(Clone, Copy)]
+pub struct Refused {
+    pub number: u32,
+    pub others_are_zero: bool,
 }
 
-// A reply by the paper's numbers for it; any other number is no reply.
-pub fn reply(r: u64) {
-    if r < 4294967296 {
-        number(r);
-        return;
-    }
-    match r {
-        4294967296 => put(b"no"),
-        4294967297 => put(b"yes"),
-        4294967298 => put(b"finished"),
-        4294967299 => put(b"unknown"),
-        _ => with(b"no reply, but ", r),
+impl fmt::Display for Refused {
+    fn fmt<W: fmt::Write>(&self, f: &mut fmt::Formatter<W>) -> fmt::Result {
+        write!(f, "refused {}", self.number)?;
+        if !self.others_are_zero {
+            f.write_str(", with a part that is not 0")?;
+        }
+        Ok(())
     }
 }
 
 // Nothing where the rows hold their marks, else the fault.
-pub fn rows(hold: bool) {
-    if !hold {
-        put(b", rows changed");
+#[derive(Clone, Copy)]
+pub struct RowsHold(pub bool);
+
+impl fmt::Display for RowsHold {
+    fn fmt<W: fmt::Write>(&self, f: &mut fmt::Formatter<W>) -> fmt::Result {
+        f.write_str(if self.0 { "" } else { ", rows changed" })
     }
 }
 
-// A number with a space before it.
-pub fn spaced(n: u64) {
-    with(b" ", n);
+// Numbers with a space before each: also nodes, which the paper writes in decimal.
+#[derive(Clone, Copy)]
+pub struct Spaced<'a, T>(pub &'a [T]);
+
+impl<T: fmt::Display> fmt::Display for Spaced<'_, T> {
+    fn fmt<W: fmt::Write>(&self, f: &mut fmt::Formatter<W>) -> fmt::Result {
+        for x in self.0 {
+            write!(f, " {x}")?;
+        }
+        Ok(())
+    }
 }
 
 // Numbers; of a long row the first twelve, and how many there are.
-pub fn numbers(row: &[u32]) {
-    for i in 0..row.len() {
-        if i < 12 {
-            spaced(wide_32(row[i]));
+#[derive(Clone, Copy)]
+pub struct Numbers<'a>(pub &'a [u32]);
+
+impl fmt::Display for Numbers<'_> {
+    fn fmt<W: fmt::Write>(&self, f: &mut fmt::Formatter<W>) -> fmt::Result {
+        match self.0.get(..12) {
+            Some(first) if 12 < self.0.len() => {
+                write!(f, "{} .. of {}", Spaced(first), self.0.len())
+            }
+            _ => write!(f, "{}", Spaced(self.0)),
         }
     }
-    if 12 < row.len() {
-        of(row.len());
+}
+
+// Bytes in hexadecimal, as the paper writes all but nodes.
+#[derive(Clone, Copy)]
+pub struct Bytes<'a>(pub &'a [u8]);
+
+impl fmt::Display for Bytes<'_> {
+    fn fmt<W: fmt::Write>(&self, f: &mut fmt::Formatter<W>) -> fmt::Result {
+        for b in self.0 {
+            write!(f, " {b:02X}")?;
+        }
+        Ok(())
     }
 }
 
-fn of(n: usize) {
-    with(b" .. of ", wide(n));
-}
+// The word of lists, where it does not say of every list that it was delivered.
+#[derive(Clone, Copy)]
+pub struct Word(pub u32);
 
-// Bytes in decimal, as the paper writes the nodes of a row.
-pub fn nodes(row: &[u8]) {
-    for i in 0..row.len() {
-        spaced(wide_8(row[i]));
+impl fmt::Display for Word {
+    fn fmt<W: fmt::Write>(&self, f: &mut fmt::Formatter<W>) -> fmt::Result {
+        match self.0 {
+            u32::MAX => Ok(()),
+            word => write!(f, ", word {word}"),
+        }
     }
-}
-
-// Bytes in hexadecimal, as the paper writes all other bytes.
-pub fn bytes(row: &[u8]) {
-    for i in 0..row.len() {
-        byte(row[i]);
-    }
-}
-
-fn byte(x: u8) {
-    let text = [b' ', digit(x / 16), digit(x)];
-    put(&text);
-}
-
-// The last hexadecimal digit.
-fn digit(x: u8) -> u8 {
-    let d = x % 16;
-    if d < 10 { 48 + d } else { 55 + d }
 }
 
 // Lists as they lie in one row.
-pub fn lying(row: &[u32], laid: Lists) {
-    let ends = laid.ends;
-    put(b" numbers");
-    numbers(row);
-    put(b", ends");
-    numbers(first_numbers(&ends, laid.count));
+#[derive(Clone, Copy)]
+pub struct Lying<'a>(pub &'a [u32], pub &'a Lists);
+
+impl fmt::Display for Lying<'_> {
+    fn fmt<W: fmt::Write>(&self, f: &mut fmt::Formatter<W>) -> fmt::Result {
+        let ends = Numbers(ends_of(self.1));
+        write!(f, " numbers{}, ends{ends}", Numbers(self.0))
+    }
 }
 
 // Lists as they are lent.
-pub fn lent(row: &[u32], laid: Lists) {
-    lying(row, laid);
-    word(laid);
-}
+#[derive(Clone, Copy)]
+pub struct Lent<'a>(pub &'a [u32], pub &'a Lists);
 
-// The word, where it does not say of every list that it was delivered.
-pub fn word(laid: Lists) {
-    if laid.word != u32::MAX {
-        with(b", word ", wide_32(laid.word));
+impl fmt::Display for Lent<'_> {
+    fn fmt<W: fmt::Write>(&self, f: &mut fmt::Formatter<W>) -> fmt::Result {
+        write!(f, "{}{}", Lying(self.0, self.1), Word(self.1.word))
     }
 }
 
 // Lists by their numbers, each in braces.
-pub fn lists(row: &[u32], laid: Lists) {
-    for k in 0..laid.count {
-        list(row, laid, k);
-    }
-}
+#[derive(Clone, Copy)]
+pub struct Braced<'a>(pub &'a [u32], pub &'a Lists);
 
-fn list(row: &[u32], laid: Lists, k: usize) {
-    let all = laid.ends;
-    let ends = first_numbers(&all, laid.count);
-    with(b" L", wide(k));
-    put(b" {");
-    numbers(lists::list_part(row, ends, laid.word, k));
-    put(b" }");
+impl fmt::Display for Braced<'_> {
+    fn fmt<W: fmt::Write>(&self, f: &mut fmt::Formatter<W>) -> fmt::Result {
+        for k in 0..self.1.count {
+            let list = lists::list_part(self.0, ends_of(self.1), self.1.word, k);
+            write!(f, " L{k} {{{} }}", Numbers(list))?;
+        }
+        Ok(())
+    }
 }

@@ -1,132 +1,106 @@
 // A change of a list as one case: what is handed in, and the rows as they are left.
-use crate::remarks::Line;
-use crate::{long, marks, remarks, text};
-use cases::first_numbers;
+use crate::fault::Fault;
+use crate::outcome::Outcome;
+use crate::text::{Bytes, Lent, Lying, Numbers, Refused, RowsHold};
+use changed::lent::{Left, Request};
 use changed::{evaluated, lent};
-use compare::evaluated::Difference;
-use compare::same_numbers;
-use evaluator::{Change, Lists, Updated};
+use evaluator::Change;
+use std::alloc::Global;
+use std::fmt;
 
-// At most 65,536 numbers and a kept row of at most 80 are lent, all that the line has.
-pub fn update(
+pub fn update<R: Print>(
+    rt: &R,
+    alloc: Global,
     name: &[u8],
-    numbers: &[u32],
-    lists: Lists,
-    packed: &[u8],
-    c: Change,
-    kept: &[u32],
-    count: usize,
-) -> Line {
-    let mut row = long::copied(numbers);
-    let mut held = [0u32; 80];
-    compare::copy(&mut held, kept);
-    let n = numbers.len() % 65537;
-    let k = kept.len() % 81;
-    let left = lent::update(&mut row[0..n], lists, packed, c, &mut held[0..k], count);
-    let left_numbers = long::front(&row, n);
-    let left_kept = marks::front_32(&held, k);
-    asked(name, numbers, lists, packed, c, kept, count);
-    came_back(numbers, lists, kept, count, left, left_numbers, left_kept);
-    remarks::end(evaluate(
-        numbers,
-        lists,
-        packed,
-        c,
-        kept,
-        count,
-        left,
-        left_numbers,
-        left_kept,
-    ))
-}
-
-fn asked(
-    name: &[u8],
-    numbers: &[u32],
-    lists: Lists,
-    packed: &[u8],
-    c: Change,
-    kept: &[u32],
-    count: usize,
-) {
-    text::put(name);
-    text::put(b", update");
-    text::lent(numbers, lists);
-    text::put(b", packed");
-    text::bytes(packed);
-    change(c);
-    rest(kept, count);
-}
-
-pub fn change(c: Change) {
-    text::with(b", list ", text::wide(c.list));
-    text::with(b", number ", text::wide_32(c.number));
-    text::with(b", add ", text::wide_8(c.add));
-}
-
-// The kept row and the count.
-fn rest(kept: &[u32], count: usize) {
-    text::put(b", kept");
-    text::numbers(kept);
-    text::with(b", count ", text::wide(count));
-}
-
-// The rows as they are left, or the refusal, with which they are left alone.
-fn came_back(
-    numbers: &[u32],
-    lists: Lists,
-    kept: &[u32],
-    count: usize,
-    left: Updated,
-    left_numbers: &[u32],
-    left_kept: &[u32],
-) {
-    text::put(b":");
-    if left.number == 0 {
-        text::lying(left_numbers, left.lists);
-        rest(left_kept, left.count);
-        return;
-    }
-    text::put(b" ");
-    text::refused(left.number, true);
-    let same = same_numbers(numbers, left_numbers) && same_numbers(kept, left_kept);
-    text::rows(same && same_ends(lists, left.lists) && count == left.count);
-}
-
-fn same_ends(a: Lists, b: Lists) -> bool {
-    let ends = a.ends;
-    let others = b.ends;
-    same_numbers(first_numbers(&ends, 80), first_numbers(&others, 80))
+    request: Request,
+) -> Result<Outcome, Fault> {
+    let mut numbers = request.source.numbers.to_vec(alloc)?;
+    let mut kept = request.kept.to_vec(alloc)?;
+    let updated = lent::update(request, &mut numbers, &mut kept);
+    let left = Left {
+        updated,
+        numbers: &numbers,
+        kept: &kept,
+    };
+    let outcome = evaluate(alloc, request, left)?;
+    let came_back = CameBack { request, left };
+    rt.write_all(name)?;
+    println!(rt; ", update{}:{came_back}{outcome}", Asked(request))?;
+    Ok(outcome)
 }
 
 // What the evaluator says, which has rows of its own.
-fn evaluate(
-    numbers: &[u32],
-    lists: Lists,
-    packed: &[u8],
-    c: Change,
-    kept: &[u32],
-    count: usize,
-    left: Updated,
-    left_numbers: &[u32],
-    left_kept: &[u32],
-) -> Difference {
-    let mut row = long::copied(numbers);
-    let mut held = [0u32; 80];
-    compare::copy(&mut held, kept);
-    let n = numbers.len() % 65537;
-    let k = kept.len() % 81;
-    evaluated::update(
-        numbers,
-        lists,
-        packed,
-        c,
-        kept,
-        count,
-        &mut row[0..n],
-        &mut held[0..k],
-        left,
-        left_numbers,
-        left_kept,
-    )
+fn evaluate(alloc: Global, request: Request, left: Left) -> Result<Outcome, Fault> {
+    let mut numbers = request.source.numbers.to_vec(alloc)?;
+    let mut kept = request.kept.to_vec(alloc)?;
+    let said = evaluated::update(request, left, &mut numbers, &mut kept);
+    Ok(Outcome::from(said))
+}
+
+// What is handed in.
+#[derive(Clone, Copy)]
+struct Asked<'a>(Request<'a>);
+
+impl fmt::Display for Asked<'_> {
+    fn fmt<W: fmt::Write>(&self, f: &mut fmt::Formatter<W>) -> fmt::Result {
+        let source = self.0.source;
+        let lent = Lent(source.numbers, &source.lists);
+        let changes = Changes(self.0.change);
+        let kept = Kept(self.0.kept, self.0.count);
+        write!(f, "{lent}, packed{}{changes}{kept}", Bytes(source.packed))
+    }
+}
+
+#[derive(Clone, Copy)]
+pub struct Changes(pub Change);
+
+impl fmt::Display for Changes {
+    fn fmt<W: fmt::Write>(&self, f: &mut fmt::Formatter<W>) -> fmt::Result {
+        let c = self.0;
+        write!(f, ", list {}, number {}, add {}", c.list, c.number, c.add)
+    }
+}
+
+// The kept row and the count.
+#[derive(Clone, Copy)]
+struct Kept<'a>(&'a [u32], usize);
+
+impl fmt::Display for Kept<'_> {
+    fn fmt<W: fmt::Write>(&self, f: &mut fmt::Formatter<W>) -> fmt::Result {
+        write!(f, ", kept{}, count {}", Numbers(self.0), self.1)
+    }
+}
+
+// The rows as they are left, or the refusal, with which they are left alone.
+#[derive(Clone, Copy)]
+struct CameBack<'a, 'b> {
+    request: Request<'a>,
+    left: Left<'b>,
+}
+
+impl CameBack<'_, '_> {
+    fn is_left_alone(&self) -> bool {
+        let source = self.request.source;
+        let left = self.left;
+        source.numbers == left.numbers
+            && self.request.kept == left.kept
+            && source.lists.ends == left.updated.lists.ends
+            && self.request.count == left.updated.count
+    }
+}
+
+impl fmt::Display for CameBack<'_, '_> {
+    fn fmt<W: fmt::Write>(&self, f: &mut fmt::Formatter<W>) -> fmt::Result {
+        let left = self.left;
+        let updated = left.updated;
+        if updated.number == 0 {
+            let lying = Lying(left.numbers, &updated.lists);
+            return write!(f, "{lying}{}", Kept(left.kept, updated.count));
+        }
+        let refused = Refused {
+            number: updated.number,
+            others_are_zero: true,
+        };
+        write!(f, " {refused}{}", RowsHold(self.is_left_alone()))
+    }
 }

@@ -1,6 +1,7 @@
 -- What is known of a delivery before its first bit is written.
-use Rattle.std.specs.Prelude.{Bool, true, false, cond, ℕ, length, replicate}
+use Rattle.std.specs.Prelude.{Bool, cond, ℕ, length, replicate}
 use mathlib.Core.List.{List, map, flat_map}
+use Rattle.model.specs.Outcome.{Outcome, accepted, ◌>>◌, require}
 use Rattle.model.specs.Lists.{all_ascending}
 use Rattle.model.specs.Delivery
 use Rattle.model.specs.Delivery.{width, Supplied, undelivered, came, by_bit, supplied}
@@ -23,10 +24,8 @@ lists_bits ss = flat_map list_bits ss
 unfoldable pub gap_width : List ℕ → ℕ
 gap_width l = width (largest l)
 
--- 11, or the bits of all lists and the width of each list's gaps
-abbrev pub measured_by : Bool → ℕ → List (List ℕ) → Measure
-measured_by true word ls = record { number = 0; bits = length (lists_bits (supplied word ls)); widths = lay (replicate 32 0) 0 (map gap_width ls) }
-measured_by false word ls = record { number = 11; bits = 0; widths = replicate 32 0 }
-
-unfoldable pub measured : ℕ → List (List ℕ) → Measure
-measured word ls = measured_by (all_ascending ls) word ls
+-- the bits of all lists and the width of each list's gaps, or 11
+unfoldable pub measured : ℕ → List (List ℕ) → Outcome Measure
+measured word ls = do
+  require 11 (all_ascending ls)
+  accepted (record { bits = length (lists_bits (supplied word ls)); widths = lay (replicate 32 0) 0 (map gap_width ls) })

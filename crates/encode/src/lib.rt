@@ -6,35 +6,20 @@ ghost use Rattle.std.specs.Prelude.{◌≡◌, true, cond, ◌+◌, ◌-◌, ◌
 ghost use Rattle.model.specs.Lists.{lists_from, ends_hold, lend};
 ghost use Rattle.model.specs.Delivery.{gap_bits, came, list_size, supplied};
 ghost use Rattle.model.specs.Calls.{written, encode_delivery};
+ghost use Rattle.refusals.specs.Numbers.{outcome, written_as};
 ghost use Rattle.fields.specs.Positions.{put_bits};
 ghost use Rattle.encode.specs.Fits.{GapsFit, ListFits, ListsFit};
 ghost use Rattle.encode.specs.Measures.{as_supplied, list_bits, lists_bits, measured};
 
-use lists::Rise;
 use model::WriteResult;
+use refusals::Refusal;
 
-// What is known before the first bit is written: 11 or 0, the bits of all lists (their number's six apart), and the width of
-// each list's gaps.
+// What is known before the first bit is written: the bits of all lists (their number's six apart), and the width of each
+// list's gaps.
 #[derive(Drop)]
 struct Measure {
-    number: u32,
     bits: usize,
     widths: [u8; 32],
-}
-
-// A 32-bit number as a place.
-fn wide(x: u32) -> usize
-    ensures { result ≡ x }
-{
-    x as usize
-}
-
-// A number of at most 32 bits in so many.
-fn narrow(x: usize) -> u32
-    requires { x < 2 ^ 32 }
-    ensures { result ≡ x }
-{
-    x as u32
 }
 
 // How many bits a list of so many numbers takes, 17 of them its bit and its count, with gaps of w bits; one that did not
@@ -55,43 +40,23 @@ pub fn bits_of(delivered: bool, count: usize, w: usize) -> usize
     54 + w * (count - 1)
 }
 
-// A width as a byte.
-fn byte(w: u32) -> u8
-    requires { w < 256 }
-    ensures { result ≡ w }
-{
-    w as u8
-}
-
-// The first pass: whether every list ascends, the bits of all lists, and the width of each list's gaps.
-fn survey(numbers: &[u32], ends: &[u32], word: u32) -> Measure
+// The first pass: the bits of all lists, and the width of each list's gaps; 11 if one does not ascend.
+fn survey(numbers: &[u32], ends: &[u32], word: u32) -> Result<Measure, Refusal>
     requires { (ends_hold (length numbers.now) 0 ends.now ≡ true) × (length ends.now ≤ 32) }
-    ensures { result ≡ measured word (lists_from numbers.now 0 ends.now) }
+    ensures { outcome result ≡ measured word (lists_from numbers.now 0 ends.now) }
 {
     let mut widths = [0u8; 32];
     let mut bits: usize = 0;
     let mut start: usize = 0;
-    let mut k: usize = 0;
-    while k < ends.len() {
-        let stop = wide(ends[k]);
-        let Rise::Ascending(largest) = lists::rise_of(&numbers[start..stop]) else {
-            return Measure {
-                number: 11,
-                bits: 0,
-                widths: [0u8; 32],
-            };
-        };
+    for (k, &end) in ends.iter().enumerate() {
+        let stop = end as usize;
+        let largest = lists::rise_of(&numbers[start..stop])?;
         let w = fields::width_of(largest);
-        widths[k] = byte(w);
-        bits += bits_of(fields::word_bit(word, k), stop - start, wide(w));
+        widths[k] = w as u8;
+        bits += bits_of(fields::word_bit(word, k), stop - start, w as usize);
         start = stop;
-        k += 1;
     }
-    Measure {
-        number: 0,
-        bits,
-        widths,
-    }
+    Ok(Measure { bits, widths })
 }
 
 // Puts the gaps minus 1 of a list's numbers behind its first, w bits each, from the bit position at on.
@@ -101,13 +66,10 @@ fn put_gaps(s: &mut [u8], at: usize, w: usize, list: &[u32]) -> usize
 {
     let mut next = at;
     let mut last = list[0];
-    let mut i = 1;
-    while i < list.len() {
-        let x = list[i];
+    for &x in &list[1..] {
         fields::put_field(s, next, w, x - last - 1);
         next += w;
         last = x;
-        i += 1;
     }
     next
 }
@@ -119,7 +81,7 @@ fn put_delivered(s: &mut [u8], at: usize, list: &[u32], w: usize) -> usize
     ensures { (result ≡ at + length (list_bits (came list.now))) × (s.new ≡ put_bits s.old at (list_bits (came list.now))) }
 {
     let head = 65536 + list.len();
-    fields::put_field(s, at, 17, narrow(head));
+    fields::put_field(s, at, 17, head as u32);
     if list.len() == 0 {
         return at + 17;
     }
@@ -127,7 +89,7 @@ fn put_delivered(s: &mut [u8], at: usize, list: &[u32], w: usize) -> usize
     if list.len() == 1 {
         return at + 49;
     }
-    fields::put_field(s, at + 49, 5, narrow(w - 1));
+    fields::put_field(s, at + 49, 5, (w - 1) as u32);
     put_gaps(s, at + 54, w, list)
 }
 
@@ -143,13 +105,6 @@ fn put_list(s: &mut [u8], at: usize, delivered: bool, list: &[u32], w: usize) ->
     at + 1
 }
 
-// A width as a number of bits.
-fn wide_byte(x: u8) -> usize
-    ensures { result ≡ x }
-{
-    x as usize
-}
-
 // Puts all lists, whose gaps have these widths, behind the number of lists.
 fn put_lists(s: &mut [u8], numbers: &[u32], ends: &[u32], word: u32, widths: [u8; 32]) -> usize
     requires { ListsFit s.old numbers.now ends.now word widths }
@@ -157,45 +112,46 @@ fn put_lists(s: &mut [u8], numbers: &[u32], ends: &[u32], word: u32, widths: [u8
 {
     let mut next: usize = 6;
     let mut start: usize = 0;
-    let mut k: usize = 0;
-    while k < ends.len() {
-        let stop = wide(ends[k]);
+    for (k, &end) in ends.iter().enumerate() {
+        let stop = end as usize;
         let delivered = fields::word_bit(word, k);
         next = put_list(
             s,
             next,
             delivered,
             &numbers[start..stop],
-            wide_byte(widths[k]),
+            widths[k] as usize,
         );
         start = stop;
-        k += 1;
     }
     next
+}
+
+// Writes a delivery of the lists into the lent bytes; how many bytes it has.
+fn store(numbers: &[u32], ends: &[u32], word: u32, bytes: &mut [u8]) -> Result<usize, Refusal>
+    ensures { written (written_as result) bytes.new ≡ encode_delivery (lend numbers.now ends.now word) bytes.old }
+{
+    if !lists::count_holds(ends.len()) {
+        return Err(Refusal::ListCount);
+    }
+    if !lists::lists_hold(numbers.len(), ends, word) {
+        return Err(Refusal::BadEnds);
+    }
+    let m = survey(numbers, ends, word)?;
+    // six bits of their number ahead of the lists, and up to a whole byte
+    let count = (m.bits + 13) >> 3;
+    if bytes.len() < count {
+        return Err(Refusal::NoRoom);
+    }
+    fields::put_field(bytes, 0, 6, ends.len() as u32);
+    let next = put_lists(bytes, numbers, ends, word, m.widths);
+    fields::put_field(bytes, next, 8 * count - next, 0);
+    Ok(count)
 }
 
 // Writes a delivery of the lists into the lent bytes.
 pub fn encode_delivery(numbers: &[u32], ends: &[u32], word: u32, bytes: &mut [u8]) -> WriteResult
     ensures { written result bytes.new ≡ encode_delivery (lend numbers.now ends.now word) bytes.old }
 {
-    if !lists::count_holds(ends.len()) {
-        return WriteResult::refused(7);
-    }
-    if !lists::lists_hold(numbers.len(), ends, word) {
-        return WriteResult::refused(10);
-    }
-    let m = survey(numbers, ends, word);
-    if m.number != 0 {
-        return WriteResult::refused(m.number);
-    }
-    // six bits of their number ahead of the lists, and up to a whole byte
-    let count = (m.bits + 13) >> 3;
-    if bytes.len() < count {
-        return WriteResult::refused(6);
-    }
-    let widths = m.widths;
-    fields::put_field(bytes, 0, 6, narrow(ends.len()));
-    let next = put_lists(bytes, numbers, ends, word, widths);
-    fields::put_field(bytes, next, 8 * count - next, 0);
-    WriteResult { number: 0, count }
+    refusals::written(store(numbers, ends, word, bytes))
 }

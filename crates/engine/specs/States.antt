@@ -7,7 +7,7 @@ use Rattle.model.specs.Expression.{Tree}
 use Rattle.model.specs.Machine.{calls}
 use Rattle.model.specs.Run.{State, Start, run}
 use Rattle.model.specs.Demands.{ran_all}
-use Rattle.reader.specs.declared.Readers.{Readers}
+use Rattle.reader.specs.declared.readers.Readers.{Readers}
 use Rattle.reader.specs.Rows.{Stands}
 use Rattle.reader.specs.Sought.{readers_of}
 use Rattle.engine.specs.declared.StepResult.{StepResult}

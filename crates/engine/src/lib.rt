@@ -11,13 +11,15 @@ ghost use Rattle.model.specs.Steps.{seek as seek_tree};
 ghost use Rattle.model.specs.Run.{drawn, starting};
 ghost use Rattle.model.specs.Calls.{ran, run_call};
 ghost use Rattle.model.specs.Demands.{ThirdDemandMet};
-ghost use Rattle.reader.specs.Rows.{Standing, Ready};
-ghost use Rattle.reader.specs.Sought.{readers_of, found, Tallied};
+ghost use Rattle.reader.specs.Rows.{Standing};
+ghost use Rattle.reader.specs.Sought.{readers_of, found};
+ghost use Rattle.engine.specs.Answers.{ran_as};
 ghost use Rattle.engine.specs.States.{Raises, StepsTo, Answers};
 
 use expression::Form;
 use model::{Reply, RunResult};
-use reader::Readers;
+use reader::{Generator, Readers};
+use refusals::Refusal;
 
 // The highest floor, and so the highest bookmark: the first whole number that is no number any more.
 const TOP: u64 = 4294967296;
@@ -30,14 +32,6 @@ pub struct StepResult {
     pub readers: Readers,
 }
 
-// An answer below 4,294,967,296 as a number.
-fn narrow(x: u64) -> u32
-    requires { x < top }
-    ensures { result ≡ x }
-{
-    x as u32
-}
-
 // The reply to an answer of the whole expression.
 fn drawn_reply(x: u64) -> Reply
     requires { x ≤ top }
@@ -46,7 +40,7 @@ fn drawn_reply(x: u64) -> Reply
     if x == reader::FINISHED {
         return Reply::Finished;
     }
-    Reply::Member(narrow(x))
+    Reply::Member(x as u32)
 }
 
 // The floor after it: "that member plus 1"; finished, "4,294,967,296".
@@ -70,29 +64,14 @@ fn told_reply(yes: bool) -> Reply
     Reply::No
 }
 
-// The floor, raised to a number if it is lower.
-fn raised(floor: u64, to: u64) -> u64
-    ensures { result ≡ max floor to }
-{
-    if floor < to { to } else { floor }
-}
-
 // "reply the least member not below the floor; the floor becomes that member plus 1. If there is none: finished".
-pub fn draw(
-    numbers: &[u32],
-    ends: &[u32],
-    nodes: &[u8; 48],
-    behind: &[usize; 48],
-    start: Readers,
-    floor: u64,
-) -> StepResult
-    requires ready { Ready numbers.now ends.now nodes.now behind.now }
-    requires standing { Standing (length ends.now) nodes.now 0 }
-    requires floor_le_top { (floor ≤ top) × Tallied start }
-    ensures floor_le_top_2 { (result.floor ≤ top) × Tallied result.readers }
-    ensures steps_to { StepsTo numbers.now ends.now nodes.now (λ ls t. drawn (seek_tree ls t 0 floor (readers_of start))) result }
+pub fn draw(generator: &Generator, start: Readers, floor: u64) -> StepResult
+    requires standing { Standing (length generator.now.ends.now) generator.now.nodes.now 0 }
+    requires floor_le_top { floor ≤ top }
+    ensures floor_le_top_2 { result.floor ≤ top }
+    ensures steps_to { StepsTo generator.now.numbers.now generator.now.ends.now generator.now.nodes.now (λ ls t. drawn (seek_tree ls t 0 floor (readers_of start))) result }
 {
-    let a = seeks::seek(numbers, ends, nodes, behind, 0, start, floor);
+    let a = seeks::seek(generator, 0, start, floor);
     let x = a.answer;
     let reply = drawn_reply(x);
     let readers = a.readers;
@@ -110,8 +89,8 @@ fn target(floor: u64, code: u8, d: u32) -> u64
     ensures raises { Raises floor code d result }
 {
     match code {
-        1 => raised(floor, reader::wide(d)),
-        2 => raised(floor, reader::wide(d) + 1),
+        1 => floor.max(u64::from(d)),
+        2 => floor.max(u64::from(d) + 1),
         _ => floor,
     }
 }
@@ -121,7 +100,7 @@ fn asks(floor: u64, code: u8, d: u32) -> bool
     ensures { result ≡ eqb code 3 && leb floor d }
 {
     if code == 3 {
-        floor <= reader::wide(d)
+        floor <= u64::from(d)
     } else {
         false
     }
@@ -142,7 +121,7 @@ fn encode(reply: Reply) -> u64
     ensures { result ≡ encoded reply }
 {
     match reply {
-        Reply::Member(x) => reader::wide(x),
+        Reply::Member(x) => u64::from(x),
         Reply::No => 4294967296,
         Reply::Yes => 4294967297,
         Reply::Finished => 4294967298,
@@ -152,51 +131,42 @@ fn encode(reply: Reply) -> u64
 
 // The calls one after another, from the bookmark as floor, every reader at place 0 and no moves; one reply for each.
 fn answer(
-    numbers: &[u32],
-    ends: &[u32],
-    nodes: &[u8; 48],
-    behind: &[usize; 48],
+    generator: &Generator,
     bookmark: u64,
     codes: &[u8],
     arguments: &[u32],
     replies: &mut [u64],
 ) -> RunResult
-    requires ready { Ready numbers.now ends.now nodes.now behind.now }
-    requires standing { Standing (length ends.now) nodes.now 0 }
+    requires standing { Standing (length generator.now.ends.now) generator.now.nodes.now 0 }
     requires bookmark_le_top { bookmark ≤ top }
     requires codes_len { (length codes.now ≡ length arguments.now) × (length codes.now ≤ length replies.old) }
-    ensures { Answers numbers.now ends.now nodes.now (starting bookmark) codes.now arguments.now replies.old (ran result replies.new) }
+    ensures { Answers generator.now.numbers.now generator.now.ends.now generator.now.nodes.now (starting bookmark) codes.now arguments.now replies.old (ran result replies.new) }
 {
-    let mut readers = Readers {
-        places: [0u16; 48],
-        moves: 0,
-    };
+    let mut readers = Readers::first();
     let mut floor = bookmark;
-    let mut i = 0;
-    while i < codes.len() {
+    for i in 0..codes.len() {
         let code = codes[i];
         let d = arguments[i];
         // draws and checks come straight from here, so that the readers are copied in and out of a seek or a check once each
         let mut word = 0;
         if code < 3 {
             let to = target(floor, code, d);
-            let s = draw(numbers, ends, nodes, behind, readers, to);
+            let s = draw(generator, readers, to);
             let reply = s.reply;
             word = encode(reply);
             floor = s.floor;
             readers = s.readers;
         } else if asks(floor, code, d) {
-            let a = checks::check(numbers, ends, nodes, behind, 0, readers, d);
+            let a = checks::check(generator, 0, readers, d);
             let reply = told_reply(a.yes);
             word = encode(reply);
-            floor = reader::wide(d);
+            floor = u64::from(d);
             readers = a.readers;
         } else {
             let reply = idle_reply(code);
             word = encode(reply);
         }
         replies[i] = word;
-        i += 1;
     }
     let places = readers.places;
     RunResult {
@@ -205,6 +175,41 @@ fn answer(
         places,
         bookmark: floor,
     }
+}
+
+// A run, with a refusal as an `Err`.
+fn try_run(
+    numbers: &[u32],
+    ends: &[u32],
+    word: u32,
+    packed: &[u8],
+    bookmark: u64,
+    codes: &[u8],
+    arguments: &[u32],
+    replies: &mut [u64],
+) -> Result<RunResult, Refusal>
+    ensures { ran (ran_as result) replies.new ≡ run_call (lend numbers.now ends.now word) packed.now (starting bookmark) codes.now arguments.now replies.old }
+{
+    lists::test_lists(numbers, ends, word)?;
+    let read = expression::read_expression(Form::Packed, packed, ends.len(), word)?;
+    if TOP < bookmark {
+        return Err(Refusal::BadBookmark);
+    }
+    if codes.len() != arguments.len() {
+        return Err(Refusal::RowLengths);
+    }
+    if replies.len() < codes.len() {
+        return Err(Refusal::RowLengths);
+    }
+    let nodes = read.nodes;
+    let behind = reader::node_ends(&nodes);
+    let generator = Generator {
+        numbers,
+        ends,
+        nodes: &nodes,
+        behind: &behind,
+    };
+    Ok(answer(&generator, bookmark, codes, arguments, replies))
 }
 
 // A run over lent lists and a packed expression, from a bookmark: one reply for each call in the lent row, and the moves, places
@@ -224,26 +229,10 @@ pub fn run(
     ensures call { ran result replies.new ≡ run_call (lend numbers.now ends.now word) packed.now (starting bookmark) codes.now arguments.now replies.old }
     ensures demand { ThirdDemandMet (lend numbers.now ends.now word) packed.now (starting bookmark) codes.now arguments.now replies.old (ran result replies.new) }
 {
-    let number = lists::test_lists(numbers, ends, word);
-    if number != 0 {
-        return RunResult::refused(number);
+    match try_run(
+        numbers, ends, word, packed, bookmark, codes, arguments, replies,
+    ) {
+        Ok(run) => run,
+        Err(refusal) => RunResult::refused(u32::from(refusal)),
     }
-    let read = expression::read_expression(Form::Packed, packed, ends.len(), word);
-    if read.number != 0 {
-        return RunResult::refused(read.number);
-    }
-    if TOP < bookmark {
-        return RunResult::refused(12);
-    }
-    if codes.len() != arguments.len() {
-        return RunResult::refused(13);
-    }
-    if replies.len() < codes.len() {
-        return RunResult::refused(13);
-    }
-    let nodes = read.nodes;
-    let behind = reader::node_ends(&nodes);
-    answer(
-        numbers, ends, &nodes, &behind, bookmark, codes, arguments, replies,
-    )
 }

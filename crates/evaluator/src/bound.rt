@@ -2,55 +2,53 @@
 // the bounds of all nodes are worked out in rounds, until the root's is settled.
 ghost use Rattle.std.specs.Prelude.{◌<◌};
 
-use crate::lent::{Lists, size, stops};
-use crate::tokens::{kind, value};
-use crate::{lent, tokens};
+use crate::Refusal;
+use crate::lent::Lists;
+use crate::tokens::{Node, nodes_of};
 
-// The number of a refusal or 0; the most members, the most moves, and the most bytes of a delivery (all 0 with a refusal).
-#[derive(Drop)]
+// The most members, the most moves, and the most bytes of a delivery.
+#[derive(Clone, Copy)]
 pub struct Bounded {
-    pub number: u32,
     pub members: u32,
     pub moves: u32,
     pub bytes: usize,
 }
 
-fn place(x: u8) -> usize {
-    x as usize
-}
-
-// The length of the list at a token, 0 at an operator.
-fn length(lists: Lists, token: u8) -> u32 {
-    let ends = lists.ends;
-    if kind(token) == 0 {
-        (size(stops(&ends, lists.count), place(value(token))) % 65536) as u32
-    } else {
-        0
+// The length of a leaf's list, 0 at an operator.
+fn length(lists: &Lists, node: Node) -> u32 {
+    match node {
+        Node::List(k) => lists.size(usize::from(k)),
+        _ => 0,
     }
 }
 
-// Of each node in expression order the length of its list, 0 at an operator or where there is no node: what its
-// reader's place can reach. All 0 where the ends, in so long a row (7, 10), or the expression (1 to 5, 18) do not read.
-pub fn lengths(row: usize, lists: Lists, packed: &[u8]) -> [u32; 48] {
+// Of each node in expression order the length of its list, 0 at an operator.
+fn lengths_of(lists: &Lists, nodes: &[Node]) -> [u32; 48] {
     let mut found = [0u32; 48];
-    if lent::ends_refused(row, lists) != 0 {
-        return found;
-    }
-    let read = tokens::tokens_of(packed, lists);
-    let nodes = read.tokens;
-    let count = read.count % 49;
-    for i in 0..count {
-        found[i] = length(lists, nodes[i]);
+    for (place, node) in found.iter_mut().zip(nodes) {
+        *place = length(lists, *node);
     }
     found
 }
 
+// The lengths where ends, in so long a row, and expression read.
+fn read_lengths(row: usize, lists: &Lists, packed: &[u8]) -> Result<[u32; 48], Refusal> {
+    lists.check_ends(row)?;
+    let nodes = nodes_of(packed, lists)?;
+    Ok(lengths_of(lists, nodes.read()))
+}
+
+// Of each node in expression order the length of its list, 0 at an operator or where there is no node: what its
+// reader's place can reach. All 0 where the ends, in so long a row, or the expression do not read.
+pub fn lengths(row: usize, lists: Lists, packed: &[u8]) -> [u32; 48] {
+    read_lengths(row, &lists, packed).unwrap_or([0; 48])
+}
+
 // The place behind the tree that begins at a place: from the left, as long as nodes of it are owed.
-fn behind(tokens: &[u8; 48], from: usize) -> usize {
+fn behind(nodes: &[Node; 48], from: usize) -> usize {
     let mut owed: u8 = 1;
     for i in from..48 {
-        owed = std::num::wrapping_sub_u8(owed, 1);
-        owed = std::num::wrapping_add_u8(owed, tokens::members(tokens[i]));
+        owed = owed.wrapping_sub(1).wrapping_add(nodes[i].members());
         if owed == 0 {
             return i + 1;
         }
@@ -58,77 +56,72 @@ fn behind(tokens: &[u8; 48], from: usize) -> usize {
     48
 }
 
-// An operator's bound from its members': a union's is their sum, an intersection's the least, a difference's the first; or the sum
-// for each. The first member stands straight behind the operator, every other one behind the tree before it.
-fn bound(tokens: &[u8; 48], bounds: &[u32; 48], operator: usize, sum: bool) -> u32
+// An operator's bound from its members': a union's is their sum, an intersection's the least, a difference's the first. The first
+// member stands straight behind the operator, every other one behind the tree before it.
+fn bound(nodes: &[Node; 48], bounds: &[u32; 48], operator: usize) -> u32
     requires { operator < 48 }
 {
-    let token = tokens[operator];
+    let node = nodes[operator];
     let mut at = operator + 1;
     let mut found = bounds[at % 48];
-    for member in 1..value(token) {
-        at = behind(tokens, at);
+    for _ in 1..node.members() {
+        at = behind(nodes, at);
         let next = bounds[at % 48];
-        if sum || kind(token) == 2 {
-            found = std::num::wrapping_add_u32(found, next);
-        } else if kind(token) == 3 && next < found {
-            found = next;
-        }
+        found = match node {
+            Node::Union(_) => found.wrapping_add(next),
+            Node::Intersection(_) => found.min(next),
+            _ => found,
+        };
     }
     found
 }
 
-// The root's bound. A list's is its length, an operator's 0 at first. In every round each operator's is worked out anew from its
-// members' as they are then, so one more depth is right; twelve rounds are enough for depth 12.
-fn settled(tokens: &[u8; 48], lengths: [u32; 48], sum: bool) -> u32 {
-    let mut bounds = lengths;
-    for turn in 0..576usize {
-        let i = turn % 48;
-        if kind(tokens[i]) != 0 {
-            bounds[i] = bound(tokens, &bounds, i, sum);
+// The bounds after one more round, in which each operator's is worked out anew from its members' as they are then.
+fn round(nodes: &[Node; 48], bounds: [u32; 48]) -> [u32; 48] {
+    let mut new = bounds;
+    for i in 0..48 {
+        if 0 < nodes[i].members() {
+            new[i] = bound(nodes, &new, i);
         }
+    }
+    new
+}
+
+// The root's bound. A list's is its length, an operator's 0 at first. With every round one more depth is right; twelve rounds are
+// enough for depth 12.
+fn settled(nodes: &[Node; 48], lengths: [u32; 48]) -> u32 {
+    let mut bounds = lengths;
+    for _ in 0..12 {
+        bounds = round(nodes, bounds);
     }
     bounds[0]
 }
 
-// The most bytes of a delivery of the lists: of each its bit and its count, 17 bits, 32 for every number, and the width's 5 where
-// there are two or more.
-fn bytes(ends: &[u32]) -> usize {
-    let mut bits: usize = 6;
-    for k in 0..ends.len() {
-        let n = size(ends, k) % 65536;
-        bits = std::num::wrapping_add_usize(bits, 17 + 32 * n);
-        if 1 < n {
-            bits = std::num::wrapping_add_usize(bits, 5);
-        }
-    }
-    std::num::wrapping_add_usize(bits, 7) / 8
+// The bits of a list of so many numbers: its own and its count's, 32 for every number, and the width's where there are two or more.
+fn bits(n: u32) -> usize {
+    let width = if 1 < n { 5 } else { 0 };
+    1 + 16 + 32 * n as usize + width
+}
+
+// The most bytes of a delivery of the lists.
+fn bytes(lists: &Lists) -> usize {
+    let all = (0..lists.count).fold(6, |sum: usize, k| sum.wrapping_add(bits(lists.size(k))));
+    all.div_ceil(8)
 }
 
 // How large it can get with lists of these ends. There is no row for an end to pass, and every list counts as delivered. The moves'
 // bound is the sum of all leaves, whatever joins them.
-pub fn bounds(lists: Lists, packed: &[u8]) -> Bounded {
-    let mut all = lists;
-    all.word = u32::MAX;
-    let mut b = Bounded {
-        number: lent::ends_refused(usize::MAX, all),
-        members: 0,
-        moves: 0,
-        bytes: 0,
+pub fn bounds(lists: Lists, packed: &[u8]) -> Result<Bounded, Refusal> {
+    let all = Lists {
+        word: u32::MAX,
+        ..lists
     };
-    if b.number != 0 {
-        return b;
-    }
-    let read = tokens::tokens_of(packed, all);
-    b.number = read.number;
-    if b.number != 0 {
-        return b;
-    }
-    let row = read.tokens;
-    let leaves = lengths(usize::MAX, all, packed);
-    let ends = lists.ends;
-    b.members = settled(&row, leaves, false);
-    b.moves = settled(&row, leaves, true);
-    b.bytes = bytes(stops(&ends, lists.count));
-    b
+    all.check_ends(usize::MAX)?;
+    let nodes = nodes_of(packed, &all)?;
+    let leaves = lengths_of(&all, nodes.read());
+    Ok(Bounded {
+        members: settled(&nodes.row, leaves),
+        moves: leaves.iter().fold(0, |sum: u32, n| sum.wrapping_add(*n)),
+        bytes: bytes(&all),
+    })
 }

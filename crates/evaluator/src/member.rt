@@ -1,105 +1,75 @@
-// Membership of one number, decided from the tokens and the lists alone.
-use crate::lent::{end, start};
-use crate::tokens::{kind, members, value};
+// Membership of one number, decided from the nodes and the lists alone.
+use crate::change::Change;
+use crate::lent::Lists;
+use crate::tokens::Node;
 
-fn wide(x: u32) -> u64 {
-    x as u64
+// An expression over lent lists, with a change of one of them made, if there is one.
+#[derive(Clone, Copy)]
+pub struct Expression<'a> {
+    pub numbers: &'a [u32],
+    pub lists: &'a Lists,
+    pub nodes: &'a [Node],
+    pub change: Option<Change>,
 }
 
-// Whether x stands at one of the places from .. to.
-pub fn stands(numbers: &[u32], from: usize, to: usize, x: u64) -> bool {
-    for i in from..to {
-        if i < numbers.len() {
-            if wide(numbers[i]) == x {
-                return true;
-            }
+impl Expression<'_> {
+    // Whether x stands in list k.
+    fn holds(&self, k: u8, x: u32) -> bool {
+        let k = usize::from(k);
+        match self.change {
+            Some(c) if c.list == k && c.number == x => c.adds(),
+            _ => self.lists.part(self.numbers, k).contains(&x),
         }
     }
-    false
-}
 
-// The lists that the expression names: bit k for list k.
-fn named(tokens: &[u8]) -> u64 {
-    let mut found: u64 = 0;
-    for i in 0..tokens.len() {
-        if kind(tokens[i]) == 0 {
-            found = found | (1u64 << value(tokens[i]));
+    // Whether x is denoted by a node, of whose members the lowest bits of the stack say it, the first member lowest.
+    fn is_in(&self, node: Node, stack: u64, x: u32) -> bool {
+        match node {
+            Node::List(k) => self.holds(k, x),
+            Node::Difference => stack & 3 == 1,
+            Node::Union(n) => stack & ones(n) != 0,
+            Node::Intersection(n) => stack & ones(n) == ones(n),
         }
     }
-    found
-}
 
-// Those of some lists, bit k for list k, that x stands in.
-fn holding(numbers: &[u32], ends: &[u32], some: u64, x: u64) -> u64 {
-    let mut held: u64 = 0;
-    for k in 0..ends.len() {
-        if (some >> (k % 32)) % 2 == 1 && stands(numbers, start(ends, k), end(ends, k), x) {
-            held = held | (1u64 << (k % 32));
+    // The stack after one more node: its members' truth values give way to its own.
+    fn with_node(&self, stack: u64, node: Node, x: u32) -> u64 {
+        let left = stack.wrapping_shr(u32::from(node.members()));
+        left << 1 | u64::from(self.is_in(node, stack, x))
+    }
+
+    // Whether x is a member. The nodes are gone over from right to left, so that the members of a node come before it; at most 48
+    // truth values are stacked, as the bits of one number.
+    pub fn has(&self, x: u32) -> bool {
+        let mut stack = 0;
+        for node in self.nodes.iter().rev() {
+            stack = self.with_node(stack, *node, x);
+        }
+        stack & 1 == 1
+    }
+
+    // The lower of two numbers, the second only if it is not below the floor and a member.
+    fn lower(&self, best: Option<u32>, floor: u64, x: u32) -> Option<u32> {
+        if floor <= u64::from(x) && best.is_none_or(|least| x < least) && self.has(x) {
+            return Some(x);
+        }
+        best
+    }
+
+    // The least member not below the floor: all numbers up to the last end are tried, and the number of the change.
+    pub fn least(&self, floor: u64) -> Option<u32> {
+        let mut best = None;
+        for x in self.numbers.iter().take(self.lists.used()) {
+            best = self.lower(best, floor, *x);
+        }
+        match self.change {
+            Some(c) => self.lower(best, floor, c.number),
+            None => best,
         }
     }
-    held
-}
-
-// The named lists that x stands in: bit k for list k.
-pub fn holders(numbers: &[u32], ends: &[u32], tokens: &[u8], x: u64) -> u64 {
-    holding(numbers, ends, named(tokens), x)
 }
 
 // The lowest n bits set.
 fn ones(n: u8) -> u64 {
-    u64::MAX ^ (u64::MAX << (n % 32))
-}
-
-fn truth(x: bool) -> u64 {
-    if x { 1 } else { 0 }
-}
-
-// A node's truth value from those of its members, which are the lowest bits of the stack, the first member lowest.
-fn judged(stack: u64, token: u8, held: u64) -> bool {
-    let k = kind(token);
-    let n = value(token);
-    if k == 0 {
-        return (held >> n) % 2 == 1;
-    }
-    if k == 1 {
-        return stack & 3 == 1;
-    }
-    let top = stack & ones(n);
-    if k == 2 { top != 0 } else { top == ones(n) }
-}
-
-// The stack after one more node: its members' truth values give way to its own.
-fn pushed(stack: u64, token: u8, held: u64) -> u64 {
-    ((stack >> members(token)) << 1) | truth(judged(stack, token, held))
-}
-
-// Whether a number that stands in these lists, bit k for list k, is a member. The tokens are gone over from right to left, so that
-// the members of a node come before it; at most 48 truth values are stacked, as the bits of one number.
-pub fn denotes(tokens: &[u8], held: u64) -> bool {
-    let mut stack: u64 = 0;
-    let mut left = tokens.len();
-    while 0 < left {
-        left -= 1;
-        stack = pushed(stack, tokens[left], held);
-    }
-    stack % 2 == 1
-}
-
-// Whether x is a member.
-pub fn is_member(numbers: &[u32], ends: &[u32], tokens: &[u8], x: u64) -> bool {
-    denotes(tokens, holders(numbers, ends, tokens, x))
-}
-
-// The least member not below the floor, 4294967296 if there is none: all numbers up to the last end are tried.
-pub fn least(numbers: &[u32], ends: &[u32], tokens: &[u8], floor: u64) -> u64 {
-    let mut best: u64 = 4294967296;
-    for i in 0..start(ends, ends.len()) {
-        if i < numbers.len() {
-            let x = wide(numbers[i]);
-            if floor <= x && x < best && is_member(numbers, ends, tokens, x) {
-                best = x;
-            }
-        }
-    }
-    best
+    !u64::MAX.wrapping_shl(u32::from(n))
 }

@@ -1,235 +1,150 @@
-// The packed expression as a row of tokens, one byte a node, in expression order: kind times 32, plus the list number
-// (kind 0) or the member count (difference 1, union 2, intersection 3).
-ghost use Rattle.std.specs.Prelude.{◌<◌, ◌≤◌};
+// The packed expression read into its nodes, in expression order.
+use crate::Refusal;
+use crate::lent::Lists;
 
-use crate::lent::{Lists, is_delivered};
+// A leaf with its list's number, or an operator; a union and an intersection with how many members they have.
+#[derive(Clone, Copy)]
+pub enum Node {
+    List(u8),
+    Difference,
+    Union(u8),
+    Intersection(u8),
+}
 
-// The tokens read, of which there are count; or the number of the refusal, and then count is 0.
+impl Node {
+    // How many members a node has: a list none.
+    pub fn members(self) -> u8 {
+        match self {
+            Node::List(_) => 0,
+            Node::Difference => 2,
+            Node::Union(n) | Node::Intersection(n) => n,
+        }
+    }
+}
+
+// The nodes read, of which there are count. They are kept without an allocator, in an array.
+#[derive(Clone, Copy)]
+pub struct Nodes {
+    pub row: [Node; 48],
+    count: usize,
+}
+
+impl Nodes {
+    pub fn read(&self) -> &[Node] {
+        self.row.get(..self.count).unwrap_or(&self.row)
+    }
+}
+
+// The bits of a packed expression, the most significant bit of a byte first, read up to a position.
 #[derive(Drop)]
-pub struct Scan {
-    pub number: u32,
-    pub count: usize,
-    pub tokens: [u8; 48],
+struct Bits<'a> {
+    packed: &'a [u8],
+    at: usize,
 }
 
-// What reading one node finds: its token and its size in bits, or the number of the refusal.
-#[derive(Drop)]
-struct Node {
-    number: u32,
-    token: u8,
-    bits: usize,
-}
-
-fn wide(x: u8) -> u64 {
-    x as u64
-}
-
-// The first n tokens of a row, or all of a shorter one.
-pub fn first(row: &[u8], n: usize) -> &[u8] {
-    if n <= row.len() {
-        return &row[0..n];
+impl Bits<'_> {
+    // The bit at a position; 0 behind the end.
+    fn bit(&self, at: usize) -> u8 {
+        match self.packed.get(at / 8) {
+            Some(byte) => *byte >> (7 - at % 8) & 1,
+            None => 0,
+        }
     }
-    row
-}
 
-pub fn kind(token: u8) -> u8 {
-    token / 32
-}
-
-// The list number, or the member count.
-pub fn value(token: u8) -> u8
-    ensures { result < 32 }
-{
-    token % 32
-}
-
-// How many members a node has: a list none.
-pub fn members(token: u8) -> u8
-    ensures { result < 32 }
-{
-    if kind(token) == 0 {
-        return 0;
+    // The field of a few bits at the position.
+    fn field(&self, width: usize) -> u8 {
+        let mut read = 0;
+        for i in 0..width {
+            read = read << 1 | self.bit(self.at.wrapping_add(i));
+        }
+        read
     }
-    value(token)
-}
 
-// The bit at a position, counted from the most significant bit of the first byte; 0 behind the end.
-fn bit(packed: &[u8], at: usize) -> u64
-    ensures { result < 2 }
-{
-    let byte = at / 8;
-    if byte < packed.len() {
-        (wide(packed[byte]) >> (7 - at % 8)) % 2
-    } else {
-        0
+    // The next field of a few bits, unless its bits run out.
+    fn take(&mut self, width: usize) -> Result<u8, Refusal> {
+        let end = self.at.wrapping_add(width);
+        if self.packed.len() < end.div_ceil(8) {
+            return Err(Refusal::BitsRunOut);
+        }
+        let read = self.field(width);
+        self.at = end;
+        Ok(read)
+    }
+
+    // Whether the bits from the position on are fewer than eight and all 0.
+    fn is_fill(&self) -> bool {
+        self.packed.len() == self.at.div_ceil(8) && self.field((8 - self.at % 8) % 8) == 0
+    }
+
+    // How many members an operator has: the field is one less.
+    fn take_count(&mut self) -> Result<u8, Refusal> {
+        Ok(self.take(3)?.wrapping_add(1))
+    }
+
+    // The next node.
+    fn take_node(&mut self, lists: &Lists) -> Result<Node, Refusal> {
+        match self.take(2)? {
+            0 => leaf(self.take(5)?, lists),
+            1 => Ok(Node::Difference),
+            2 => Ok(Node::Union(self.take_count()?)),
+            _ => Ok(Node::Intersection(self.take_count()?)),
+        }
     }
 }
 
-// The field of a few bits at a position. All nodes take at most 48 times 7 bits.
-fn field(packed: &[u8], at: usize, width: usize) -> u64
-    requires { (at ≤ 400) × (width ≤ 8) }
-{
-    let mut read: u64 = 0;
-    for i in 0..width {
-        read = (read * 2 + bit(packed, at + i)) % 256;
+// The leaf that names a list, which is there and was delivered.
+fn leaf(list: u8, lists: &Lists) -> Result<Node, Refusal> {
+    let k = usize::from(list);
+    if lists.count <= k {
+        return Err(Refusal::NoSuchList);
     }
-    read
+    if !lists.is_delivered(k) {
+        return Err(Refusal::NotDelivered);
+    }
+    Ok(Node::List(list))
 }
 
-// How many bytes so many bits take.
-fn bytes(bits: usize) -> usize
-    requires { bits ≤ 400 }
-{
-    (bits + 7) / 8
-}
-
-// How many bits a node of a kind takes.
-fn bits(kind: u64) -> usize
-    ensures { (2 ≤ result) × (result ≤ 7) }
-{
-    if kind == 0 {
-        return 7;
-    }
-    if kind == 1 {
-        return 2;
-    }
-    5
-}
-
-// A difference has two members, and no field for their count; the others' field is the count minus 1.
-fn operator(kind: u64, read: u64) -> u8 {
-    if kind == 1 {
-        return 34;
-    }
-    ((kind % 4) * 32 + read % 8 + 1) as u8
-}
-
-fn unread(number: u32) -> Node
-    ensures { result.bits ≤ 7 }
-{
-    Node {
-        number,
-        token: 0,
-        bits: 0,
-    }
-}
-
-// The leaf that names a list: 4 if there is no such list, then 18 if it was not delivered.
-fn leaf(list: u64, lists: Lists) -> Node
-    ensures { result.bits ≤ 7 }
-{
-    if lists.count as u64 <= list {
-        return unread(4);
-    }
-    if !is_delivered(lists, (list % 32) as usize) {
-        return unread(18);
-    }
-    Node {
-        number: 0,
-        token: (list % 32) as u8,
-        bits: 7,
-    }
-}
-
-// The node at a position: 1 if its bits run out; a list is refused as its leaf is.
-fn node_at(packed: &[u8], at: usize, lists: Lists) -> Node
-    requires { at ≤ 336 }
-    ensures { result.bits ≤ 7 }
-{
-    if packed.len() < bytes(at + 2) {
-        return unread(1);
-    }
-    let kind = field(packed, at, 2);
-    let taken = bits(kind);
-    if packed.len() < bytes(at + taken) {
-        return unread(1);
-    }
-    let read = field(packed, at + 2, taken - 2);
-    if kind != 0 {
-        return Node {
-            number: 0,
-            token: operator(kind, read),
-            bits: taken,
-        };
-    }
-    leaf(read, lists)
-}
-
-// How many of the first count tokens are operators whose members are not all read. Going from right to left, whole
-// counts the nodes read to their end that belong to no operator yet. An operator that wants more of them is not whole
-// itself, so the count starts again to its left.
-fn open(tokens: &[u8; 48], count: usize) -> usize
-    requires { count ≤ 48 }
-{
+// How many of these nodes are operators whose members are not all read. Going from right to left, whole counts the nodes read to
+// their end that belong to no operator yet. An operator that wants more of them is not whole itself, so the count starts again to its
+// left.
+fn open(nodes: &[Node]) -> usize {
     let mut found: usize = 0;
     let mut whole: u8 = 0;
-    let mut left = count;
-    while 0 < left {
-        left -= 1;
-        let wanted = members(tokens[left]);
-        if whole < wanted {
-            found += 1;
-            whole = 0;
-        } else {
-            whole = whole - wanted + 1;
+    for node in nodes.iter().rev() {
+        match whole.checked_sub(node.members()) {
+            Some(left) => whole = left.wrapping_add(1),
+            None => {
+                found = found.wrapping_add(1);
+                whole = 0;
+            }
         }
     }
     found
 }
 
-// Whether the bits from a position on are fewer than eight and all 0.
-fn is_fill(packed: &[u8], at: usize) -> bool
-    requires { at ≤ 336 }
-{
-    if packed.len() != bytes(at) {
-        return false;
-    }
-    field(packed, at, (8 - at % 8) % 8) == 0
-}
-
-fn refusal(number: u32) -> Scan {
-    Scan {
-        number,
-        count: 0,
-        tokens: [0u8; 48],
-    }
-}
-
-// The expression's tokens. The next node's depth is one more than the operators that are open; where none is left open
-// behind a node, that node was the last.
-pub fn tokens_of(packed: &[u8], lists: Lists) -> Scan {
-    let mut tokens = [0u8; 48];
-    let mut at: usize = 0;
-    let mut opened: usize = 0;
-    for count in 0..48 {
-        if 12 <= opened {
-            return refusal(3);
+// The expression's nodes. The next node's depth is one more than the operators that are open; where none is left open behind a node,
+// that node was the last, and nothing but fill is left over.
+pub fn nodes_of(packed: &[u8], lists: &Lists) -> Result<Nodes, Refusal> {
+    let mut row = [Node::List(0); 48];
+    let mut bits = Bits { packed, at: 0 };
+    for last in 0..48 {
+        if 12 <= open(&row[..last]) {
+            return Err(Refusal::TooDeep);
         }
-        let next = node_at(packed, at, lists);
-        if next.number != 0 {
-            return refusal(next.number);
-        }
-        tokens[count] = next.token;
-        at += next.bits;
-        opened = open(&tokens, count + 1);
-        if opened == 0 {
-            return ended(packed, at, tokens, count + 1);
+        row[last] = bits.take_node(lists)?;
+        let count = last + 1;
+        if open(&row[..count]) == 0 {
+            return ended(&bits, Nodes { row, count });
         }
     }
-    refusal(2)
+    Err(Refusal::TooManyNodes)
 }
 
-// What a whole expression comes to, which ends at a position: 5 if anything but fill is left over.
-fn ended(packed: &[u8], at: usize, tokens: [u8; 48], count: usize) -> Scan
-    requires { at ≤ 336 }
-{
-    if is_fill(packed, at) {
-        Scan {
-            number: 0,
-            count,
-            tokens,
-        }
+// What a whole expression comes to.
+fn ended(bits: &Bits, nodes: Nodes) -> Result<Nodes, Refusal> {
+    if bits.is_fill() {
+        Ok(nodes)
     } else {
-        refusal(5)
+        Err(Refusal::BadFill)
     }
 }

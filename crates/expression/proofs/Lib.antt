@@ -1,6 +1,5 @@
 -- The theory about reading an expression.
 pub mod Levels
 pub mod Positions
-pub mod Nodes
 pub mod Turns
 pub mod Handed

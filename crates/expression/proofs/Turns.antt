@@ -11,12 +11,10 @@ use native.Mathlib.Omega.{arith}
 use lib.ListN.{length, get_or, take, drop, set, replicate, length-set, length-take, take-append-drop}
 use lib.Seq.{get_or-set_same, get_or-set_other, take-suc-set, drop-set-lt, drop-drop}
 use Rattle.model.specs.declared.Node.{Node}
-use Rattle.model.specs.declared.Node.TheVariants.{Leaf, Difference, Union, Intersection}
-use Rattle.model.specs.Outcome.{Outcome, refused, accepted, ◌>>=◌, ◌>>◌, require, number_of}
+use Rattle.model.specs.Outcome.{Outcome, refused, accepted, ◌>>=◌, ◌>>◌, require}
 use Rattle.model.specs.Expression.{Tree}
 use Rattle.model.specs.Forms.{row_byte, row, LeafTest}
 use Rattle.model.proofs.Shape.{row-long}
-use Rattle.model.proofs.Told.{Told, told_right, zero_accepts, refused_by}
 use Rattle.expression.specs.declared.Form.{Form}
 use Rattle.expression.specs.declared.Expression.{Expression}
 use Rattle.expression.specs.Reading.{take_in, named, members, at_end, read_form, expression_of}
@@ -24,32 +22,14 @@ use Rattle.expression.proofs.Levels.{Then, levels, closed, refused_2, refused_3,
 use Rattle.expression.proofs.Positions.{node_taken, read_by_position}
 
 -- what is handed back, by the row bytes
-unfoldable pub laid : Outcome (List ℕ) → Expression
-laid (refused n) = record { number = n; count = 0; nodes = replicate 48 0 }
-laid (accepted bs) = record { number = 0; count = length bs; nodes = bs ++ replicate (48 - length bs) 0 }
+unfoldable pub laid : Outcome (List ℕ) → Outcome Expression
+laid (refused n) = refused n
+laid (accepted bs) = accepted (record { count = length bs; nodes = bs ++ replicate (48 - length bs) 0 })
 
 expression-laid : (o : Outcome Tree) → expression_of o ≡ laid (o >>= λ t. accepted (row t))
 unfolding expression_of laid
 expression-laid (refused n) = refl
 expression-laid (accepted t) = rw (row-long t)
-
-laid-refused : (n : ℕ) → laid (refused n) ≡ expression_of (refused n)
-unfolding expression_of laid
-laid-refused n = refl
-
--- a leaf's test, of any node, by its number
-module _ (test : LeafTest) (leaf_told : (k : ℕ) → Told (test k)) where
-  named_told : (node : Node) → Told (named test node)
-  named_told (Leaf k) = leaf_told k
-  named_told Difference = told_right
-  named_told (Union n) = told_right
-  named_told (Intersection n) = told_right
-
-  pub passes : {number : ℕ} (node : Node) → number ≡ number_of (named test node) → number ≡ 0 → named test node ≡ accepted tt
-  passes node e z = (zero_accepts (named test node) (named_told node) (sym e ∙ z)).is
-
-  pub fails : {number : ℕ} (node : Node) → number ≡ number_of (named test node) → (number ≡ 0 → ⊥) → named test node ≡ refused number
-  fails node e h = refused_by (named test node) (λ z. h (e ∙ z)) ∙ ap refused (sym e)
 
 -- the open levels, the innermost first
 unfoldable pub stack : ℕ → List ℕ → List ℕ
@@ -113,17 +93,18 @@ module _ (form : Form) (test : LeafTest) (s : List ℕ) where
 
 module _ {form : Form} {test : LeafTest} {s nodes left : List ℕ} {depth done at : ℕ} (h : Held form test s nodes left depth done at) where
   -- what is refused now is what the whole reading comes to
-  refuses : {number : ℕ} → still form test s nodes left depth done at ≡ refused number → expression_of (read_form form test s) ≡ expression_of (refused number)
-  refuses {number} e = h.reads ∙ ap laid e ∙ laid-refused number
+  refuses : {number : ℕ} → still form test s nodes left depth done at ≡ refused number → expression_of (read_form form test s) ≡ refused number
+  unfolding laid
+  refuses e = h.reads ∙ ap laid e
 
   ended : depth ≡ 0 → still form test s nodes left depth done at ≡ (require 5 (at_end form s at) >> accepted (take done nodes))
   unfolding still levels stack
   ended e = rw e (simp append-nil)
 
-  pub at_5 : depth ≡ 0 → at_end form s at ≡ false → expression_of (read_form form test s) ≡ expression_of (refused 5)
+  pub at_5 : depth ≡ 0 → at_end form s at ≡ false → expression_of (read_form form test s) ≡ refused 5
   at_5 e f = refuses (ended e ∙ rw f)
 
-  pub whole : depth ≡ 0 → at_end form s at ≡ true → expression_of (read_form form test s) ≡ record { number = 0; count = done; nodes = nodes }
+  pub whole : depth ≡ 0 → at_end form s at ≡ true → expression_of (read_form form test s) ≡ accepted (record { count = done; nodes = nodes })
   unfolding laid
   whole e f =
       let l : length (take done nodes) ≡ done = omega (arith, length-take done nodes) in
@@ -149,11 +130,11 @@ module _ {form : Form} {test : LeafTest} {s nodes left : List ℕ} {depth done a
     top : stack depth left ≡ suc (get_or left (depth - 1) 0 - 1) ∷ stack (depth - 1) left
     top = stack_top depth (depth - 1) left (omega arith) ∙ ap (λ (n : ℕ). n ∷ stack (depth - 1) left) (omega (arith, some))
 
-    pub at_2 : 48 ≤ done → expression_of (read_form form test s) ≡ expression_of (refused 2)
+    pub at_2 : 48 ≤ done → expression_of (read_form form test s) ≡ refused 2
     unfolding still
     at_2 g = refuses (rw top (refused_2 test (take_in form s) (13 - depth) _ _ done at _ g))
 
-    pub at_3 : done < 48 → depth ≡ 13 → expression_of (read_form form test s) ≡ expression_of (refused 3)
+    pub at_3 : done < 48 → depth ≡ 13 → expression_of (read_form form test s) ≡ refused 3
     unfolding still
     at_3 g f = let d : 13 - depth ≡ 0 = omega arith in refuses (rw (top, d) (refused_3 test (take_in form s) 0 _ _ done at _ g))
 
@@ -161,11 +142,11 @@ module _ {form : Form} {test : LeafTest} {s nodes left : List ℕ} {depth done a
       deeper : 13 - depth ≡ suc (12 - depth)
       deeper = omega arith
 
-      pub at_1 : {number : ℕ} → take_in form s at ≡ refused number → expression_of (read_form form test s) ≡ expression_of (refused number)
+      pub at_1 : {number : ℕ} → take_in form s at ≡ refused number → expression_of (read_form form test s) ≡ refused number
       unfolding still
       at_1 r = refuses (rw (top, deeper) (refused_1 test (take_in form s) (12 - depth) _ _ done at _ g r))
 
-      pub at_leaf : {node : Node} {next number : ℕ} → take_in form s at ≡ accepted (node, next) → named test node ≡ refused number → expression_of (read_form form test s) ≡ expression_of (refused number)
+      pub at_leaf : {node : Node} {next number : ℕ} → take_in form s at ≡ accepted (node, next) → named test node ≡ refused number → expression_of (read_form form test s) ≡ refused number
       unfolding still
       at_leaf r b = refuses (rw (top, deeper) (refused-leaf test (take_in form s) (12 - depth) _ _ done at _ g r b))
 

@@ -1,29 +1,28 @@
 -- Reading an expression in either stored form, by its position in the bytes.
-use Rattle.std.specs.Prelude.{Bool, List, ◌++◌, ℕ, ◌+◌, ◌-◌, ltb, eqb, length, get_or, drop, replicate}
+use Rattle.std.specs.Prelude.{◌≡◌, Bool, List, ◌++◌, ℕ, ◌+◌, ◌-◌, ltb, eqb, length, get_or, drop, replicate}
 use Rattle.model.specs.declared.Node.{Node}
 use Rattle.model.specs.declared.Node.TheVariants.{Leaf, Difference, Union, Intersection}
 use Rattle.model.specs.Outcome.{Outcome, refused, accepted, ◌>>=◌, ◌>>◌, require}
 use Rattle.model.specs.Expression.{Tree, size}
 use Rattle.model.specs.Fields.{bits, only_fill}
 use Rattle.model.specs.Forms.{row, node_of, take_node, LeafTest, read_row, read_packed}
+use Rattle.refusals.specs.declared.Refusal.{Refusal}
+use Rattle.refusals.specs.Numbers.{number}
 use Rattle.fields.specs.Positions.{take_at}
 use Rattle.expression.specs.declared.Form.{Form}
 use Rattle.expression.specs.declared.Form.TheVariants.{Packed, Row}
-use Rattle.expression.specs.declared.Kind.{Kind}
-use Rattle.expression.specs.declared.Kind.TheVariants.{Known, Unknown}
 use Rattle.expression.specs.declared.Step.{Step}
 use Rattle.expression.specs.declared.Step.TheVariants.{Node as Found, Refused}
 use Rattle.expression.specs.declared.Expression.{Expression}
 
--- the paper's number and value for each case of what a byte says
-abbrev pub kind_says : Kind → Outcome Node
-kind_says (Known node) = accepted node
-kind_says Unknown = refused 14
-
 -- the paper's number and values for each case of what reading a node finds
 abbrev pub step_says : Step → Outcome (Node × ℕ)
 step_says (Found node next) = accepted (node, next)
-step_says (Refused n) = refused n
+step_says (Refused r) = refused (number r)
+
+-- it has found no node
+abbrev pub IsRefused : Step → Type 0
+IsRefused step = (r : Refusal) × (step ≡ Refused r)
 
 -- one node of a row at its place p, with the place behind it
 unfoldable pub byte_at : List ℕ → ℕ → Outcome (Node × ℕ)
@@ -61,7 +60,7 @@ abbrev pub read_form : Form → LeafTest → List ℕ → Outcome Tree
 read_form Packed test s = read_packed test s
 read_form Row test s = read_row test s
 
--- what is handed back: the number of a refusal and every other part 0, or the nodes' count and row bytes with 0 behind them
-unfoldable pub expression_of : Outcome Tree → Expression
-expression_of (refused n) = record { number = n; count = 0; nodes = replicate 48 0 }
-expression_of (accepted t) = record { number = 0; count = size t; nodes = row t ++ replicate (48 - size t) 0 }
+-- what is handed back: a refusal, or the nodes' count and row bytes with 0 behind them
+unfoldable pub expression_of : Outcome Tree → Outcome Expression
+expression_of (refused n) = refused n
+expression_of (accepted t) = accepted (record { count = size t; nodes = row t ++ replicate (48 - size t) 0 })

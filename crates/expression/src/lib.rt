@@ -4,13 +4,14 @@
 #![tactic(auto)]
 
 ghost use Rattle.std.specs.Prelude.{◌≡◌, ◌*◌, ◌^◌, ◌≤◌, ◌<◌, length};
-ghost use Rattle.model.specs.Outcome.{refused as refusal, number_of};
+ghost use Rattle.model.specs.Outcome.{refused};
 ghost use Rattle.model.specs.Forms.{row_byte, node_of, take_node, there};
 ghost use Rattle.fields.specs.Positions.{take_at};
-ghost use Rattle.expression.specs.Reading.{kind_says, step_says, byte_at, take_in, members, named, at_end, read_form, expression_of};
+ghost use Rattle.refusals.specs.Numbers.{number, outcome};
+ghost use Rattle.expression.specs.Reading.{step_says, IsRefused, byte_at, take_in, members, named, at_end, read_form, expression_of};
 
-use fields::Field;
 use model::Node;
+use refusals::Refusal;
 
 // The two stored forms.
 #[derive(Clone, Copy)]
@@ -19,107 +20,69 @@ pub enum Form {
     Row,
 }
 
-// What a byte of the row form says.
-#[derive(Drop)]
-pub enum Kind {
-    Known(Node),
-    Unknown,
-}
-
-// What reading a node finds: the node with the position behind it, or the number of a refusal.
-#[derive(Drop)]
+// What reading a node finds: the node with the position behind it, or a refusal. 01 has an enum here, which `let .. else` takes
+// apart, so it is no Result.
+#[derive(Clone, Copy)]
 enum Step {
     Node { node: Node, next: usize },
-    Refused(u32),
+    Refused(Refusal),
 }
 
-// An expression read: the number of a refusal or 0, how many nodes, and their row bytes with 0 behind them.
+// An expression read: how many nodes, and their row bytes with 0 behind them. They stand in a fixed row, for there is no heap.
 #[derive(Drop)]
 pub struct Expression {
-    pub number: u32,
     pub count: usize,
     pub nodes: [u8; 48],
 }
 
-// The node of a byte in the row form: "all others are unknown".
-pub fn node_of(b: u8) -> Kind
-    ensures { kind_says result ≡ node_of b }
+// The node of a byte in the row form: "all others are unknown". No `TryFrom`: the node is of another crate, and 01 has this match.
+#[tactic(auto, unfolding(model::specs::Forms::node_of))]
+pub fn node_of(b: u8) -> Result<Node, Refusal>
+    ensures { outcome result ≡ node_of b }
 {
     match b {
-        0..=31 => Kind::Known(Node::Leaf(b)),
-        64 => Kind::Known(Node::Difference),
-        129..=136 => Kind::Known(Node::Union(b - 128)),
-        193..=200 => Kind::Known(Node::Intersection(b - 192)),
-        _ => Kind::Unknown,
+        0..=31 => Ok(Node::Leaf(b)),
+        64 => Ok(Node::Difference),
+        129..=136 => Ok(Node::Union(b - 128)),
+        193..=200 => Ok(Node::Intersection(b - 192)),
+        _ => Err(Refusal::UnknownByte),
     }
 }
 
-// A field of at most 8 bits as a byte.
-fn narrow(x: u32) -> u8
-    requires { x < 256 }
-    ensures { result ≡ x }
-{
-    x as u8
-}
-
-// The packed node at the bit position at.
-fn packed_node(s: &[u8], at: usize) -> Step
+// The packed node at the bit position at, with the position behind it.
+#[tactic(auto, using(fields::proofs::Fields::took), unfolding(model::specs::Forms::take_node, model::specs::Forms::take_kind, model::specs::Forms::take_rest))]
+fn packed_node(s: &[u8], at: usize) -> Result<(Node, usize), Refusal>
     requires { at < 2 ^ 61 }
-    ensures { step_says result ≡ take_node (take_at s.now) at }
+    ensures { outcome result ≡ take_node (take_at s.now) at }
 {
-    let Field::Value { value: kind, next } = fields::take_field(s, at, 2) else {
-        return Step::Refused(1);
-    };
-    if kind == 0 {
-        let Field::Value {
-            value: list,
-            next: last,
-        } = fields::take_field(s, next, 5)
-        else {
-            return Step::Refused(1);
-        };
-        return Step::Node {
-            node: Node::Leaf(narrow(list)),
-            next: last,
-        };
-    }
-    if kind == 1 {
-        return Step::Node {
-            node: Node::Difference,
-            next,
-        };
-    }
-    let Field::Value {
-        value: less,
-        next: last,
-    } = fields::take_field(s, next, 3)
-    else {
-        return Step::Refused(1);
-    };
-    if kind == 2 {
-        return Step::Node {
-            node: Node::Union(narrow(less) + 1),
-            next: last,
-        };
-    }
-    Step::Node {
-        node: Node::Intersection(narrow(less) + 1),
-        next: last,
+    let (kind, next) = fields::take_field(s, at, 2)?;
+    match kind {
+        0 => {
+            let (list, last) = fields::take_field(s, next, 5)?;
+            Ok((Node::Leaf(list as u8), last))
+        }
+        1 => Ok((Node::Difference, next)),
+        2 => {
+            let (less, last) = fields::take_field(s, next, 3)?;
+            Ok((Node::Union(less as u8 + 1), last))
+        }
+        _ => {
+            let (less, last) = fields::take_field(s, next, 3)?;
+            Ok((Node::Intersection(less as u8 + 1), last))
+        }
     }
 }
 
-// The node of a row at its place at.
-fn row_node(s: &[u8], at: usize) -> Step
-    ensures { step_says result ≡ byte_at s.now at }
+// The node of a row at its place at, with the place behind it.
+#[tactic(auto, unfolding(crate::specs::Reading::byte_at))]
+fn row_node(s: &[u8], at: usize) -> Result<(Node, usize), Refusal>
+    ensures { outcome result ≡ byte_at s.now at }
 {
     if s.len() <= at {
-        return Step::Refused(1);
+        return Err(Refusal::RunsOut);
     }
-    let kind = node_of(s[at]);
-    let Kind::Known(node) = kind else {
-        return Step::Refused(14);
-    };
-    Step::Node { node, next: at + 1 }
+    let node = node_of(s[at])?;
+    Ok((node, at + 1))
 }
 
 // The node at a position, in either form.
@@ -127,52 +90,49 @@ fn read_node(form: Form, s: &[u8], at: usize) -> Step
     requires { at < 2 ^ 61 }
     ensures { step_says result ≡ take_in form s.now at }
 {
-    match form {
+    let taken = match form {
         Form::Packed => packed_node(s, at),
         Form::Row => row_node(s, at),
+    };
+    match taken {
+        Ok((node, next)) => Step::Node { node, next },
+        Err(refusal) => Step::Refused(refusal),
     }
 }
 
-// The number of a refusal, 0 where there is none.
-fn number_of(step: Step) -> u32
-    ensures { result ≡ number_of (step_says step) }
-{
-    match step {
-        Step::Node { node: _, next: _ } => 0,
-        Step::Refused(number) => number,
-    }
-}
-
-// A byte as a number of more bits.
-pub fn wide(b: u8) -> usize
-    ensures { result ≡ b }
-{
-    b as usize
-}
-
-// The test of a list number, of so many lists with this word: 4 where it is not there, 18 where it was not delivered, else 0.
-pub fn test_list(lists: usize, word: u32, k: usize) -> u32
-    ensures { result ≡ number_of (there lists word k) }
+// The test of a list number, of so many lists with this word: whether it is there, and was delivered.
+#[tactic(auto, unfolding(model::specs::Forms::there))]
+pub fn test_list(lists: usize, word: u32, k: usize) -> Result<(), Refusal>
+    ensures { outcome result ≡ there lists word k }
 {
     if lists <= k {
-        return 4;
+        return Err(Refusal::NoSuchList);
     }
     if !fields::word_bit(word, k) {
-        return 18;
+        return Err(Refusal::NotDelivered);
     }
-    0
+    Ok(())
 }
 
-// The test of a leaf, of any node: the number of its refusal, 0 where there is none.
-fn test_leaf(lists: usize, word: u32, node: Node) -> u32
-    ensures { result ≡ number_of (named (there lists word) node) }
+// The test of a leaf, of any node.
+fn test_leaf(lists: usize, word: u32, node: Node) -> Result<(), Refusal>
+    ensures { outcome result ≡ named (there lists word) node }
 {
     match node {
-        Node::Leaf(k) => test_list(lists, word, wide(k)),
-        Node::Difference => 0,
-        Node::Union(_) => 0,
-        Node::Intersection(_) => 0,
+        Node::Leaf(k) => test_list(lists, word, k as usize),
+        Node::Difference | Node::Union(_) | Node::Intersection(_) => Ok(()),
     }
+}
+
+// The refusal of a step that found no node.
+fn refusal_of(step: Step) -> Refusal
+    requires { IsRefused step }
+    ensures { step_says step ≡ refused (number result) }
+{
+    let Step::Refused(refusal) = step else {
+        unreachable!()
+    };
+    refusal
 }
 
 // How many member nodes follow a node.
@@ -182,12 +142,12 @@ pub fn members_of(node: Node) -> u8
     match node {
         Node::Leaf(_) => 0,
         Node::Difference => 2,
-        Node::Union(n) => n,
-        Node::Intersection(n) => n,
+        Node::Union(n) | Node::Intersection(n) => n,
     }
 }
 
-// The byte of a node in the row form.
+// The byte of a node in the row form. No `From`, which could not ask that there be at most 8 member nodes.
+#[tactic(auto, unfolding(model::specs::Forms::row_byte))]
 fn byte_of(node: Node) -> u8
     requires { members node ≤ 8 }
     ensures { result ≡ row_byte node }
@@ -211,23 +171,13 @@ fn ended(form: Form, s: &[u8], at: usize) -> bool
     }
 }
 
-// What is handed back with a refusal: its number, and every other part 0.
-fn refused(number: u32) -> Expression
-    ensures { result ≡ expression_of (refusal number) }
-{
-    Expression {
-        number,
-        count: 0,
-        nodes: [0u8; 48],
-    }
-}
-
 // The expression in the bytes s, in either form, where there are so many lists, with this word.
-pub fn read_expression(form: Form, s: &[u8], lists: usize, word: u32) -> Expression
-    ensures { result ≡ expression_of (read_form form (there lists word) s.now) }
+pub fn read_expression(form: Form, s: &[u8], lists: usize, word: u32) -> Result<Expression, Refusal>
+    ensures { outcome result ≡ expression_of (read_form form (there lists word) s.now) }
 {
     let mut nodes = [0u8; 48];
-    // at each open level, how many member nodes are still to come; a list opens a level that has none
+    // at each open level, how many member nodes are still to come; a list opens a level that has none. A stack in a fixed row, for
+    // there is no heap
     let mut left = [0u8; 13];
     left[0] = 1;
     let mut depth = 1;
@@ -239,19 +189,16 @@ pub fn read_expression(form: Form, s: &[u8], lists: usize, word: u32) -> Express
             depth = level;
         } else {
             if done == 48 {
-                return refused(2);
+                return Err(Refusal::TooManyNodes);
             }
             if depth == 13 {
-                return refused(3);
+                return Err(Refusal::TooDeep);
             }
             let got = read_node(form, s, at);
             let Step::Node { node, next } = got else {
-                return refused(number_of(got));
+                return Err(refusal_of(got));
             };
-            let number = test_leaf(lists, word, node);
-            if number != 0 {
-                return refused(number);
-            }
+            test_leaf(lists, word, node)?;
             left[level] -= 1;
             left[depth] = members_of(node);
             nodes[done] = byte_of(node);
@@ -261,11 +208,7 @@ pub fn read_expression(form: Form, s: &[u8], lists: usize, word: u32) -> Express
         }
     }
     if !ended(form, s, at) {
-        return refused(5);
+        return Err(Refusal::LeftOver);
     }
-    Expression {
-        number: 0,
-        count: done,
-        nodes,
-    }
+    Ok(Expression { count: done, nodes })
 }

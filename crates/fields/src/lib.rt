@@ -6,14 +6,10 @@ ghost use Rattle.std.specs.Prelude.{◌≡◌, ◌+◌, ◌-◌, ◌*◌, ◌/�
 ghost use Rattle.model.specs.Fields.{bits, value, field, only_fill};
 ghost use Rattle.model.specs.Lists.{delivered};
 ghost use Rattle.model.specs.Delivery.{width};
-ghost use Rattle.fields.specs.Positions.{take_at, field_says, put_bits};
+ghost use Rattle.refusals.specs.Numbers.{outcome};
+ghost use Rattle.fields.specs.Positions.{take_at, put_bits};
 
-// What taking a field finds: its value and the position behind it, or that the bits run out.
-#[derive(Drop)]
-pub enum Field {
-    Value { value: u32, next: usize },
-    RunOut,
-}
+use refusals::Refusal;
 
 // The byte in which the bit position p lies.
 fn byte_of(p: usize) -> usize
@@ -27,13 +23,6 @@ fn bit_of(p: usize) -> usize
     ensures { result ≡ p % 8 }
 {
     p & 7
-}
-
-// A byte as a number of more bits.
-fn wide(b: u8) -> u64
-    ensures { result ≡ b }
-{
-    b as u64
 }
 
 // The k low bits of x.
@@ -66,10 +55,8 @@ fn bytes_at(s: &[u8], first: usize, n: usize) -> u64
     ensures { result ≡ value (bits (take n (drop first s.now))) }
 {
     let mut x: u64 = 0;
-    let mut i = 0;
-    while i < n {
-        x = join(x, 8, wide(s[first + i]));
-        i += 1;
+    for &b in &s[first..first + n] {
+        x = join(x, 8, b as u64);
     }
     x
 }
@@ -81,7 +68,7 @@ fn field_in(s: &[u8], at: usize, w: usize, n: usize) -> u32
 {
     let off = bit_of(at);
     let x = bytes_at(s, byte_of(at), n);
-    narrow(low_bits(high_bits(x, 8 * n - off - w), w))
+    low_bits(high_bits(x, 8 * n - off - w), w) as u32
 }
 
 // The field of w bits at the bit position at, whose bits are all there.
@@ -105,26 +92,16 @@ pub fn next_field(s: &[u8], at: usize, w: usize) -> u32
     field_at(s, at, w)
 }
 
-// A number of at most 32 bits in so many.
-fn narrow(x: u64) -> u32
-    requires { x < 2 ^ 32 }
-    ensures { result ≡ x }
-{
-    x as u32
-}
-
 // The field of w bits at the bit position at, with the position behind it, or that the bits run out.
-pub fn take_field(s: &[u8], at: usize, w: usize) -> Field
+pub fn take_field(s: &[u8], at: usize, w: usize) -> Result<(u32, usize), Refusal>
     requires { (1 ≤ w) × (w ≤ 32) × (at < 2 ^ 62) }
-    ensures { field_says result ≡ take_at s.now w at }
+    ensures { outcome result ≡ take_at s.now w at }
 {
     let next = at + w;
-    if byte_of(next + 7) <= s.len() {
-        let value = field_at(s, at, w);
-        Field::Value { value, next }
-    } else {
-        Field::RunOut
+    if s.len() < byte_of(next + 7) {
+        return Err(Refusal::RunsOut);
     }
+    Ok((field_at(s, at, w), next))
 }
 
 // Whether the bits from the position at on only fill the last byte: fewer than eight, and all 0.
@@ -158,10 +135,8 @@ fn put_bytes(s: &mut [u8], first: usize, n: usize, x: u64)
     requires { (n ≤ 5) × (first + n ≤ length s.old) }
     ensures { s.new ≡ put_bits s.old (8 * first) (field (8 * n) x) }
 {
-    let mut i = 0;
-    while i < n {
+    for i in 0..n {
         s[first + i] = byte(high_bits(x, 8 * (n - 1 - i)));
-        i += 1;
     }
 }
 
@@ -190,6 +165,5 @@ pub fn put_field(s: &mut [u8], at: usize, w: usize, v: u32)
 pub fn width_of(m: u32) -> u32
     ensures { result ≡ width m }
 {
-    let n = 32 - u32::leading_zeros(m);
-    if n == 0 { 1 } else { n }
+    (32 - m.leading_zeros()).max(1)
 }

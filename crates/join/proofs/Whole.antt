@@ -1,11 +1,10 @@
 -- A delivery read whole, without room, by bit positions; and the call: what each outcome of its tests hands back. Assumes nothing.
-use mathlib.Core.Path.{◌≡◌, refl, ap}
-use mathlib.Core.Bool.{Bool, true, false}
+use mathlib.Core.Path.{◌≡◌, refl, sym, ap}
+use mathlib.Core.Bool.{true, false}
 use mathlib.Core.List.{List, ◌++◌, map}
 use mathlib.Core.Option.{none}
 use Prim.Native.Nat.{ℕ, ◌≤◌, ◌<◌}
-use native.Mathlib.Omega.{arith}
-use lib.ListN.{length, drop, replicate}
+use lib.ListN.{length, drop}
 use borrow.Author.Tests.{le-leb, lt-leb, eq-eqb, ne_eqb}
 use Rattle.model.specs.Outcome.{Outcome, refused, accepted, ◌>>=◌, ◌>>◌, require, over, sent}
 use Rattle.model.specs.Lists.{count_holds}
@@ -13,6 +12,8 @@ use Rattle.model.specs.Fields.{take_field, only_fill}
 use Rattle.model.specs.Delivery.{Supplied, by_bit, read_lists, read_stored, delivery}
 use Rattle.model.specs.Calls.{written, written_refused, stored}
 use Rattle.model.specs.Joined.{join_lists, lengths_hold, join_deliveries}
+use Rattle.model.proofs.Accepted.{accepted-same, required}
+use Rattle.refusals.proofs.Up.{test-failed}
 use Rattle.model.proofs.Sources.{seen, by_bit-seen}
 use Rattle.fields.specs.Rows.{lay}
 use Rattle.fields.specs.Positions.{take_at}
@@ -20,7 +21,7 @@ use Rattle.walk.proofs.Whole
 use Rattle.walk.proofs.Whole.{from, alike}
 use Rattle.encode.specs.Measures.{lists_bits}
 use Rattle.join.specs.declared.Measure.{Measure}
-use Rattle.join.specs.Measures.{count_of, width_of, measured_by, measured}
+use Rattle.join.specs.Measures.{shape_of, no_shapes, measured}
 
 -- ---- one delivery
 
@@ -47,24 +48,21 @@ module _ (s : List ℕ) where
 pub record Holds (ss : List Supplied) (m : Measure) : Type 0 where
   pub hold : lengths_hold ss ≡ true
   pub bits : m.bits ≡ length (lists_bits ss)
-  pub counts : m.counts ≡ lay (replicate 32 0) 0 (map count_of ss)
-  pub widths : m.widths ≡ lay (replicate 32 0) 0 (map width_of ss)
+  pub shapes : m.shapes ≡ lay no_shapes 0 (map shape_of ss)
 
-pub holds : (ss : List Supplied) (m : Measure) → m ≡ measured ss → m.number ≡ 0 → Holds ss m
+pub holds : (ss : List Supplied) (m : Measure) → accepted m ≡ measured ss → Holds ss m
 unfolding measured
-holds ss m e z = go (lengths_hold ss) refl e
+holds ss m e =
+    let t = required 21 (lengths_hold ss) _ m (sym e) in
+    let same : found ≡ m = accepted-same t.1 in
+    record { hold = t.0; bits = ap (λ (x : Measure). x.bits) (sym same); shapes = ap (λ (x : Measure). x.shapes) (sym same) }
   where
-    go : (b : Bool) → lengths_hold ss ≡ b → m ≡ measured_by b ss → Holds ss m
-    go true h f = record { hold = h; bits = ap (λ (x : Measure). x.bits) f; counts = ap (λ (x : Measure). x.counts) f; widths = ap (λ (x : Measure). x.widths) f }
-    go false h f = absurd (omega (arith, ap (λ (x : Measure). x.number) f))
+    found : Measure
+    found = record { bits = length (lists_bits ss); shapes = lay no_shapes 0 (map shape_of ss) }
 
-pub too_long : (ss : List Supplied) (m : Measure) → m ≡ measured ss → (m.number ≡ 0 → ⊥) → (lengths_hold ss ≡ false) × (m.number ≡ 21)
+pub too_long : (ss : List Supplied) {k : ℕ} → refused k ≡ measured ss → (lengths_hold ss ≡ false) × (k ≡ 21)
 unfolding measured
-too_long ss m e z = go (lengths_hold ss) refl e
-  where
-    go : (b : Bool) → lengths_hold ss ≡ b → m ≡ measured_by b ss → (lengths_hold ss ≡ false) × (m.number ≡ 21)
-    go true h f = absurd (z (ap (λ (x : Measure). x.number) f))
-    go false h f = (h, ap (λ (x : Measure). x.number) f)
+too_long ss e = test-failed 21 (lengths_hold ss) _ e
 
 -- ---- the call, test by test
 

@@ -11,6 +11,7 @@ use Rattle.walk.specs.Answers.{only}
 use Rattle.join.specs.declared.Stream.{Stream}
 use Rattle.join.specs.declared.Opened.{Opened}
 use Rattle.join.specs.declared.Pair.{Pair}
+use Rattle.join.specs.declared.Places.{Places}
 use Rattle.join.specs.declared.Both.{Both}
 use Rattle.join.specs.declared.Drawn.{Drawn}
 
@@ -86,6 +87,10 @@ pub record Opens (s : List ℕ) (at : ℕ) (r : Opened) : Type 0 where
 
 unfoldable pub some_left : Pair → Bool
 some_left pair = ltb pair.full.number top || ltb pair.daily.number top
+
+-- where both stand
+abbrev pub places_of : Pair → Places
+places_of pair = record { full = pair.full.next; daily = pair.daily.next }
 
 module _ (full daily : List ℕ) where
   -- the numbers of the union that are still to be drawn

@@ -3,7 +3,7 @@
 use mathlib.Core.Path.{◌≡◌, refl, sym, ap, ap₂, ◌∙◌}
 use mathlib.Core.Bool.{Bool, true, false}
 use mathlib.Core.List.{List, [], ◌∷◌, ◌++◌, map}
-use Prim.Native.Nat.{ℕ, suc, ◌+◌, ◌-◌, ◌≤◌, ◌<◌}
+use Prim.Native.Nat.{ℕ, zero, suc, ◌+◌, ◌-◌, ◌≤◌, ◌<◌}
 use native.Mathlib.Numerals.{add-one}
 use native.Mathlib.Omega.{arith}
 use borrow.Author.Tests.{eq-eqb}
@@ -38,6 +38,12 @@ holds-changed c ls up lt = sym (ap (among c.number) (new_at c ls lt) ∙ new_amo
     go : (adds stood : Bool) → in_or_out adds true stood ≡ adds
     go true stood = refl
     go false stood = refl
+
+-- a row of one number has only numbers
+pub alone-fits : (x n i : ℕ) → x < top → get_or (replicate n x) i 0 < top
+alone-fits x zero i h = omega arith
+alone-fits x (suc n) zero h = h
+alone-fits x (suc n) (suc i) h = alone-fits x n i h
 
 -- ---- one list cut down
 module _ (x : ℕ) where

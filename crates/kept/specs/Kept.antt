@@ -1,5 +1,5 @@
 -- What is asked ahead of a change, whatever tree stands at the first node.
-use Rattle.std.specs.Prelude.{◌≡◌, Bool, true, false, List, [], ◌∷◌, map, ℕ, ◌+◌, ◌≤◌, length, get_or, take, replicate}
+use Rattle.std.specs.Prelude.{◌≡◌, Bool, true, false, Result, is_ok, List, [], ◌∷◌, map, ℕ, ◌+◌, ◌≤◌, length, get_or, take, replicate}
 use Rattle.model.specs.declared.Reply.{Reply}
 use Rattle.model.specs.declared.Reply.TheVariants.{Member, Finished, Yes, No, Unknown}
 use Rattle.model.specs.Lists.{lists_from}
@@ -10,12 +10,7 @@ use Rattle.model.specs.Calls.{ends_from}
 use Rattle.model.specs.Update.{Change, new_lists, same}
 use Rattle.fields.specs.Rows.{lay}
 use Rattle.reader.specs.Rows.{Stands}
-use Rattle.reader.specs.declared.Readers.{Readers}
-use Rattle.shifts.specs.declared.Found.{Found}
-
--- readers at the start of their lists
-abbrev pub none_read : Readers
-none_read = record { places = replicate 48 0; moves = 0 }
+use Rattle.shifts.specs.Shift.{place_of}
 
 abbrev pub as_change : ℕ → ℕ → Bool → Change
 as_change list number adds = record { list = list; number = number; adds = adds }
@@ -33,8 +28,8 @@ abbrev pub Shows : (numbers ends nodes kept : List ℕ) → Bool → Type 0
 Shows numbers ends nodes kept r = (t : Tree) → Stands (length ends) nodes t 0 → r ≡ same kept (members (lists_from numbers 0 ends) t)
 
 -- the number in list k, by its place in the whole row
-abbrev pub Finds : (numbers ends : List ℕ) → ℕ → ℕ → Found → Type 0
-Finds numbers ends k x r = let l = get_or (lists_from numbers 0 ends) k [] in (r.place ≡ get_or (0 ∷ ends) k 0 + passed l x) × (r.there ≡ among x l)
+abbrev pub Finds : (numbers ends : List ℕ) → ℕ → ℕ → Result ℕ ℕ → Type 0
+Finds numbers ends k x r = let l = get_or (lists_from numbers 0 ends) k [] in (place_of r ≡ get_or (0 ∷ ends) k 0 + passed l x) × (is_ok r ≡ among x l)
 
 -- and after the change
 abbrev pub WillHold : (numbers ends : List ℕ) → ℕ → Change → Bool → Type 0

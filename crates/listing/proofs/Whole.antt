@@ -1,15 +1,17 @@
 -- The work of `members` whole: its tests one after another, and behind them a page that holds every member. Assumes nothing.
 use mathlib.Core.Path.{◌≡◌, refl, sym, ap, ap₂, ◌∙◌}
 use mathlib.Core.Bool.{Bool, true}
-use mathlib.Core.List.{List, [], ◌∷◌, map}
+use mathlib.Core.List.{List, [], ◌∷◌, ◌++◌, map}
 use Prim.Native.Nat.{ℕ, suc, ◌+◌, ◌-◌, ◌≤◌, ◌<◌}
-use native.Mathlib.Nat.{zero-add}
 use native.Mathlib.Numerals.{add-one}
 use native.Mathlib.Omega.{arith}
 use borrow.Author.Tests.{le-leb, lt-leb, lt-ltb}
 use lib.ListN.{length, get_or, take, drop, replicate, length-take, length-drop, length-map}
 use lib.Seq.{take_all}
+use Rattle.std.proofs.Common.{Result, Ok, Err}
+use Rattle.std.specs.Result.{IsErrAnd}
 use Rattle.model.specs.declared.DecodeResult.{DecodeResult}
+use Rattle.model.specs.declared.MembersResult.{MembersResult}
 use Rattle.model.specs.declared.Reply.{Reply}
 use Rattle.model.specs.Outcome.{Outcome, refused, accepted, ◌>>=◌, number_of, Success, Sent, over, sent}
 use Rattle.model.specs.Lists.{Numbers, lists_from, lend, lists_of}
@@ -26,13 +28,20 @@ use Rattle.model.proofs.Denoted.{members_up, members-few, from_all}
 use Rattle.model.proofs.Deliveries.{delivery_holds}
 use Rattle.model.proofs.Laid.{ends-length, lists_length, laid-supplied}
 use Rattle.model.proofs.RoundTrips.{read-sends, lists-there}
-use Rattle.fields.specs.Rows.{lay}
+use Rattle.refusals.specs.declared.Refusal.{Refusal}
+use Rattle.refusals.specs.Numbers.{number}
 use Rattle.lists.proofs.Spans.{counts, readable, readable_up}
 use Rattle.reader.specs.Rows.{Stands}
 use Rattle.pages.specs.declared.Page.{Page}
 use Rattle.pages.specs.Pages.{page, page_of, laid_down}
 use Rattle.pages.proofs.Laws.{asked, starts, holds_page}
+use Rattle.listing.specs.Answers.{counted_as}
 use Rattle.listing.specs.Over.{DeliveredLists, list_over}
+
+-- a refusal that goes up by `?`, handed back
+pub handed : (lent : List ℕ) (r : Result MembersResult Refusal) (e : Refusal) → IsErrAnd r (λ y. y ≡ e) → counted (counted_as r) lent ≡ counted (counted_refused (number e)) lent
+handed lent (Ok r) e h = absurd h
+handed lent (Err y) e h = ap (λ (x : Refusal). counted (counted_refused (number x)) lent) h
 
 -- ---- behind the delivery
 
@@ -63,9 +72,9 @@ module _ (numbers ends : List ℕ) (word : ℕ) (packed lent : List ℕ) where
     unfolding list_over sent listed listing_of
     over-short h = rw (lists_length numbers 0 ends, f, lt-leb (length ms) (length lent) h)
 
-    pub over-lists : length ms ≤ length lent → counted (record { number = 0; count = length ms; moves = moves_of ls t }) (lay lent 0 ms) ≡ list_over word ls packed lent
-    unfolding list_over sent listed listing_of over lay
-    over-lists h = rw (lists_length numbers 0 ends, f, le-leb (length ms) (length lent) h, zero-add (length ms))
+    pub over-lists : length ms ≤ length lent → counted (record { number = 0; count = length ms; moves = moves_of ls t }) (ms ++ drop (length ms) lent) ≡ list_over word ls packed lent
+    unfolding list_over sent listed listing_of over
+    over-lists h = rw (lists_length numbers 0 ends, f, le-leb (length ms) (length lent) h)
 
     module _ (n : Numbers numbers) (d : DeliveredLists numbers ends) where
       few : length ms ≤ 4096
@@ -87,30 +96,32 @@ module _ (numbers ends : List ℕ) (word : ℕ) (packed lent : List ℕ) where
 
 -- ---- the input
 
--- its two parts, where the expression ends at `end`
-abbrev pub first_part : List ℕ → ℕ → List ℕ
-first_part input end = take (end - 1) (drop 1 input)
+-- where the expression ends, and the two parts
+abbrev end_of : List ℕ → ℕ
+end_of input = get_or input 0 0 + 1
 
-abbrev pub second_part : List ℕ → ℕ → List ℕ
-second_part input end = take (length input - end) (drop end input)
+abbrev pub first_part : List ℕ → List ℕ
+first_part input = take (end_of input - 1) (drop 1 input)
+
+abbrev pub second_part : List ℕ → List ℕ
+second_part input = take (length input - end_of input) (drop (end_of input) input)
 
 halves-none : (input : List ℕ) → length input ≡ 0 → halves input ≡ refused 1
 unfolding halves
 halves-none [] h = refl
 halves-none (b ∷ bs) h = absurd (omega arith)
 
-halves-short : (input : List ℕ) (end : ℕ) → (length input ≡ 0 → ⊥) → end ≡ get_or input 0 0 + 1 → length input < end → halves input ≡ refused 1
+halves-short : (input : List ℕ) → (length input ≡ 0 → ⊥) → length input < end_of input → halves input ≡ refused 1
 unfolding halves
-halves-short [] end some e h = absurd (some refl)
-halves-short (b ∷ bs) end some e h = rw (lt-leb b (length bs) (omega arith))
+halves-short [] some h = absurd (some refl)
+halves-short (b ∷ bs) some h = rw (lt-leb b (length bs) (omega arith))
 
-halves_are : (input : List ℕ) (end : ℕ) → (length input ≡ 0 → ⊥) → end ≡ get_or input 0 0 + 1 → end ≤ length input → halves input ≡ accepted (first_part input end, second_part input end)
+halves_are : (input : List ℕ) → (length input ≡ 0 → ⊥) → end_of input ≤ length input → halves input ≡ accepted (first_part input, second_part input)
 unfolding halves
-halves_are [] end some e h = absurd (some refl)
-halves_are (b ∷ bs) end some e h =
-    let first : end - 1 ≡ b = omega arith in
-    let last : drop end (b ∷ bs) ≡ drop b bs = ap (λ (n : ℕ). drop n (b ∷ bs)) (e ∙ add-one b) in
-    rw (le-leb b (length bs) (omega arith), first, last, take_all (length (b ∷ bs) - end) (drop b bs) (omega (arith, length-drop b bs)))
+halves_are [] some h = absurd (some refl)
+halves_are (b ∷ bs) some h =
+    let first : suc b - 1 ≡ b = omega arith in
+    rw (le-leb b (length bs) (omega arith), add-one b, first, take_all (length (b ∷ bs) - suc b) (drop b bs) (omega (arith, length-drop b bs)))
 
 module _ (input lent : List ℕ) where
   pub refuses-size : 65535 < length input → counted (counted_refused 6) lent ≡ list_members input lent
@@ -125,19 +136,19 @@ module _ (input lent : List ℕ) where
     pub refuses-none : length input ≡ 0 → counted (counted_refused 1) lent ≡ list_members input lent
     refuses-none h = refuses-halves (halves-none input h)
 
-    module _ (end : ℕ) (some : length input ≡ 0 → ⊥) (e : end ≡ get_or input 0 0 + 1) where
-      pub refuses-short : length input < end → counted (counted_refused 1) lent ≡ list_members input lent
-      refuses-short h = refuses-halves (halves-short input end some e h)
+    module _ (some : length input ≡ 0 → ⊥) where
+      pub refuses-short : length input < end_of input → counted (counted_refused 1) lent ≡ list_members input lent
+      refuses-short h = refuses-halves (halves-short input some h)
 
-      module _ (fits : end ≤ length input) where
-        pub refuses-delivery : (n : ℕ) → read_delivery 4096 32 (second_part input end) ≡ refused n → counted (counted_refused n) lent ≡ list_members input lent
+      module _ (fits : end_of input ≤ length input) where
+        pub refuses-delivery : (n : ℕ) → read_delivery 4096 32 (second_part input) ≡ refused n → counted (counted_refused n) lent ≡ list_members input lent
         unfolding list_members listing sent
-        refuses-delivery n f = rw (le-leb (length input) 65535 small, halves_are input end some e fits, f)
+        refuses-delivery n f = rw (le-leb (length input) 65535 small, halves_are input some fits, f)
 
         -- behind the delivery
-        pub goes_over : (ss : List Supplied) → read_delivery 4096 32 (second_part input end) ≡ accepted ss → list_over (word_of ss) (map supplied_numbers ss) (first_part input end) lent ≡ list_members input lent
+        pub goes_over : (ss : List Supplied) → read_delivery 4096 32 (second_part input) ≡ accepted ss → list_over (word_of ss) (map supplied_numbers ss) (first_part input) lent ≡ list_members input lent
         unfolding list_members listing list_over
-        goes_over ss f = rw (le-leb (length input) 65535 small, halves_are input end some e fits, f, ends-length 0 ls) (go (read_packed (there (length ls) (word_of ss)) (first_part input end)))
+        goes_over ss f = rw (le-leb (length input) 65535 small, halves_are input some fits, f, ends-length 0 ls) (go (read_packed (there (length ls) (word_of ss)) (first_part input)))
           where
             ls : List (List ℕ)
             ls = map supplied_numbers ss

@@ -3,3 +3,4 @@ pub mod Left
 pub mod Rises
 pub mod Ends
 pub mod Spans
+pub mod Tested

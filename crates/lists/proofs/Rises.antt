@@ -5,13 +5,12 @@ use mathlib.Core.List.{List, [], ◌∷◌}
 use Prim.Native.Nat.{ℕ, ◌+◌, ◌-◌, ◌≤◌, ◌<◌, max}
 use native.Mathlib.Omega.{arith}
 use borrow.Author.Tests.{lt-ltb, le-ltb}
-use lib.ListN.{length, get_or, drop, drop_of_length-le}
+use lib.ListN.{length, get_or, take, drop, drop_of_length-le}
+use lib.Seq.{take_all}
 use Rattle.model.specs.Outcome.{Outcome, refused, accepted, ◌>>◌, require}
 use Rattle.model.specs.Lists.{rises, ascending}
 use Rattle.model.specs.Delivery.{largest_gap}
-use Rattle.model.proofs.Accepted.{never_accepted}
-use Rattle.lists.specs.declared.Rise.TheVariants.{NotAscending}
-use Rattle.lists.specs.Rise.{rise_says, largest, rise}
+use Rattle.lists.specs.Rise.{largest, rise}
 use Rattle.lists.proofs.Left.{left-cons}
 
 -- what is left ascends from `last` on: the largest gap minus 1 of it and of what has passed
@@ -20,15 +19,17 @@ rise_from most last l = do
   require 11 (rises last l)
   accepted (max most (largest_gap last l))
 
-pub rise-none : (l : List ℕ) → length l ≡ 0 → rise l ≡ accepted 0
+pub rise-none : (l : List ℕ) → length l < 1 → rise l ≡ accepted 0
 unfolding rise ascending largest
 rise-none [] h = refl
 rise-none (x ∷ xs) h = absurd (omega arith)
 
-pub rise-first : (l : List ℕ) → (length l ≡ 0 → ⊥) → rise l ≡ rise_from 0 (get_or l 0 0) (drop 1 l)
+pub rise-first : (l : List ℕ) → 1 ≤ length l → rise l ≡ rise_from 0 (get_or l 0 0) (take (length l - 1) (drop 1 l))
 unfolding rise rise_from ascending largest
-rise-first [] h = absurd (h refl)
-rise-first (x ∷ xs) h = ap (λ (n : ℕ). require 11 (rises x xs) >> accepted n) (omega arith)
+rise-first [] h = absurd (omega arith)
+rise-first (x ∷ xs) h =
+    let all : take (length (x ∷ xs) - 1) xs ≡ xs = take_all _ xs (omega arith) in
+    rw all (ap (λ (n : ℕ). require 11 (rises x xs) >> accepted n) (omega arith))
 
 module _ (most last : ℕ) (l : List ℕ) (i : ℕ) where
   pub rise_falls : i < length l → get_or l i 0 ≤ last → rise_from most last (drop i l) ≡ refused 11
@@ -45,15 +46,6 @@ module _ (most last : ℕ) (l : List ℕ) (i : ℕ) where
   pub rise-end : length l ≤ i → rise_from most last (drop i l) ≡ accepted most
   unfolding rise_from rises largest_gap
   rise-end h = rw (drop_of_length-le l h) (ap accepted (omega arith))
-
--- what an answer says of a list that falls
-pub falls : (l : List ℕ) → rise_says NotAscending ≡ rise l → ascending l ≡ false
-unfolding rise_says rise
-falls l e = go (ascending l) e
-  where
-    go : (b : Bool) → refused 11 ≡ (require 11 b >> accepted (largest l)) → b ≡ false
-    go true h = never_accepted h
-    go false h = refl
 
 -- ---- whether it ascends alone: what has passed does, and what is left does from the number before it on
 pub all_first : (l : List ℕ) → (true && rises (get_or l 0 0) (drop 1 l)) ≡ ascending l

@@ -5,17 +5,12 @@
 ghost use Rattle.std.specs.Prelude.{◌≡◌, true, ◌&&◌, ◌||◌, ◌∷◌, ◌-◌, ◌≤◌, ◌<◌, eqb, length, get_or};
 ghost use Rattle.model.specs.Outcome.{number_of};
 ghost use Rattle.model.specs.Lists.{ascending, all_ascending, lists_from, count_holds, ends_hold, delivered, word_holds, lend, lists_of, span_of, part_of};
-ghost use Rattle.lists.specs.Rise.{rise, rise_says};
+ghost use Rattle.refusals.specs.Numbers.{outcome};
+ghost use Rattle.lists.specs.Rise.{rise};
 ghost use Rattle.lists.specs.Place.{element_at};
 ghost use Rattle.lists.specs.Span.{span_says};
 
-// What one list's numbers do: they ascend strictly, with the largest gap minus 1 (0 for fewer than two numbers), or
-// they do not.
-#[derive(Drop)]
-pub enum Rise {
-    Ascending(u32),
-    NotAscending,
-}
+use refusals::Refusal;
 
 // Where a list's part stands in the lent numbers, and its length.
 #[repr(C)]
@@ -25,29 +20,23 @@ pub struct Span {
     pub size: usize,
 }
 
-// One pass over one list.
-pub fn rise_of(list: &[u32]) -> Rise
-    ensures { rise_says result ≡ rise list.now }
+// The largest gap minus 1 of one list, 0 for fewer than two numbers, in one pass; 11 if it does not ascend strictly.
+pub fn rise_of(list: &[u32]) -> Result<u32, Refusal>
+    ensures { outcome result ≡ rise list.now }
 {
-    if list.len() == 0 {
-        return Rise::Ascending(0);
-    }
-    let mut last = list[0];
+    let [first, rest @ ..] = list else {
+        return Ok(0);
+    };
+    let mut last = *first;
     let mut largest: u32 = 0;
-    let mut i: usize = 1;
-    while i < list.len() {
-        let x = list[i];
+    for &x in rest {
         if x <= last {
-            return Rise::NotAscending;
+            return Err(Refusal::NotAscending);
         }
-        let gap = x - last - 1;
-        if largest < gap {
-            largest = gap;
-        }
+        largest = largest.max(x - last - 1);
         last = x;
-        i += 1;
     }
-    Rise::Ascending(largest)
+    Ok(largest)
 }
 
 // Whether one list ascends strictly. It goes through to the end whatever it finds, so that the compiler can compare several
@@ -56,31 +45,19 @@ fn ascends(list: &[u32]) -> bool
     ensures { result ≡ ascending list.now }
 {
     let mut all = true;
-    let mut i: usize = 1;
-    while i < list.len() {
+    for i in 1..list.len() {
         if list[i] <= list[i - 1] {
             all = false;
         }
-        i += 1;
     }
     all
-}
-
-// An end as an index.
-fn wide(x: u32) -> usize
-    ensures { result ≡ x }
-{
-    x as usize
 }
 
 // 7 does not apply: there are 1 to 32 lists.
 pub fn count_holds(lists: usize) -> bool
     ensures { result ≡ count_holds lists }
 {
-    if lists == 0 {
-        return false;
-    }
-    lists <= 32
+    1 <= lists && lists <= 32
 }
 
 // 10 does not apply for the ends, with a row of so many numbers.
@@ -88,20 +65,12 @@ pub fn ends_hold(size: usize, ends: &[u32]) -> bool
     ensures { result ≡ ends_hold size 0 ends.now }
 {
     let mut start: usize = 0;
-    let mut i: usize = 0;
-    while i < ends.len() {
-        let stop = wide(ends[i]);
-        if stop < start {
-            return false;
-        }
-        if size < stop {
-            return false;
-        }
-        if 65535 < stop - start {
+    for &end in ends {
+        let stop = end as usize;
+        if stop < start || size < stop || 65535 < stop - start {
             return false;
         }
         start = stop;
-        i += 1;
     }
     true
 }
@@ -110,10 +79,7 @@ pub fn ends_hold(size: usize, ends: &[u32]) -> bool
 fn agrees(word: u32, k: usize, start: u32, stop: u32) -> bool
     ensures { result ≡ (delivered word k || eqb start stop) }
 {
-    if fields::word_bit(word, k) {
-        return true;
-    }
-    start == stop
+    fields::word_bit(word, k) || start == stop
 }
 
 // Nor does it for the word: no undelivered list starts and ends apart.
@@ -121,14 +87,11 @@ fn word_holds(ends: &[u32], word: u32) -> bool
     ensures { result ≡ word_holds word 0 0 ends.now }
 {
     let mut start: u32 = 0;
-    let mut i: usize = 0;
-    while i < ends.len() {
-        let stop = ends[i];
-        if !agrees(word, i, start, stop) {
+    for (k, &stop) in ends.iter().enumerate() {
+        if !agrees(word, k, start, stop) {
             return false;
         }
         start = stop;
-        i += 1;
     }
     true
 }
@@ -137,10 +100,7 @@ fn word_holds(ends: &[u32], word: u32) -> bool
 pub fn lists_hold(size: usize, ends: &[u32], word: u32) -> bool
     ensures { result ≡ (ends_hold size 0 ends.now && word_holds word 0 0 ends.now) }
 {
-    if !ends_hold(size, ends) {
-        return false;
-    }
-    word_holds(ends, word)
+    ends_hold(size, ends) && word_holds(ends, word)
 }
 
 // 11 does not apply, where 10 does not.
@@ -149,32 +109,30 @@ fn all_ascending(numbers: &[u32], ends: &[u32]) -> bool
     ensures { result ≡ all_ascending (lists_from numbers.now 0 ends.now) }
 {
     let mut start: usize = 0;
-    let mut i: usize = 0;
-    while i < ends.len() {
-        let stop = wide(ends[i]);
+    for &end in ends {
+        let stop = end as usize;
         if !ascends(&numbers[start..stop]) {
             return false;
         }
         start = stop;
-        i += 1;
     }
     true
 }
 
-// The first of 7, 10 and 11 that refuses the lists, or 0.
-pub fn test_lists(numbers: &[u32], ends: &[u32], word: u32) -> u32
-    ensures { result ≡ number_of (lists_of (lend numbers.now ends.now word)) }
+// The first of 7, 10 and 11 that refuses the lists.
+pub fn test_lists(numbers: &[u32], ends: &[u32], word: u32) -> Result<(), Refusal>
+    ensures { number_of (outcome result) ≡ number_of (lists_of (lend numbers.now ends.now word)) }
 {
     if !count_holds(ends.len()) {
-        return 7;
+        return Err(Refusal::ListCount);
     }
     if !lists_hold(numbers.len(), ends, word) {
-        return 10;
+        return Err(Refusal::BadEnds);
     }
     if !all_ascending(numbers, ends) {
-        return 11;
+        return Err(Refusal::NotAscending);
     }
-    0
+    Ok(())
 }
 
 // Where list k starts: at the end of the list before it, the first one at 0.
@@ -182,10 +140,7 @@ pub fn start_of(ends: &[u32], k: usize) -> usize
     requires { k ≤ length ends.now }
     ensures { result ≡ get_or (0 ∷ ends.now) k 0 }
 {
-    if k == 0 {
-        return 0;
-    }
-    wide(ends[k - 1])
+    if k == 0 { 0 } else { ends[k - 1] as usize }
 }
 
 // How many numbers list k has.
@@ -200,16 +155,13 @@ pub fn length_of(ends: &[u32], k: usize) -> usize
 pub fn list_span(numbers: &[u32], ends: &[u32], word: u32, k: usize) -> Span
     ensures { span_says result ≡ span_of (lend numbers.now ends.now word) k }
 {
-    if test_lists(numbers, ends, word) != 0 {
-        return Span { start: 0, size: 0 };
+    match test_lists(numbers, ends, word) {
+        Ok(()) if k < ends.len() => Span {
+            start: start_of(ends, k),
+            size: length_of(ends, k),
+        },
+        _ => Span { start: 0, size: 0 },
     }
-    if ends.len() <= k {
-        return Span { start: 0, size: 0 };
-    }
-    let start = start_of(ends, k);
-    let stop = wide(ends[k]);
-    let size = stop - start;
-    Span { start, size }
 }
 
 // List k's part of the lent numbers itself: its numbers, and where it points.

@@ -4,13 +4,12 @@
 
 ghost use Rattle.std.specs.Prelude.{◌≤◌, length};
 ghost use Rattle.model.specs.Lists.{top};
-ghost use Rattle.reader.specs.Rows.{Standing, Ready};
-ghost use Rattle.reader.specs.Sought.{Tallied};
+ghost use Rattle.reader.specs.Rows.{Standing};
 ghost use Rattle.engine.specs.States.{state_of};
 ghost use Rattle.pages.specs.Pages.{PagesTo};
 
 use model::Reply;
-use reader::Readers;
+use reader::{Generator, Readers};
 
 // What drawing a page leaves: how many members stand in the row, floor and readers, and whether the last reply was finished.
 #[derive(Drop)]
@@ -23,26 +22,16 @@ pub struct Page {
 
 // Draws by next from a floor and readers on, until the row is full or a reply is finished. The next page goes on from the floor and
 // the readers that are handed back.
-pub fn draw_page(
-    numbers: &[u32],
-    ends: &[u32],
-    nodes: &[u8; 48],
-    behind: &[usize; 48],
-    start: Readers,
-    bookmark: u64,
-    row: &mut [u32],
-) -> Page
-    requires ready { Ready numbers.now ends.now nodes.now behind.now }
-    requires standing { Standing (length ends.now) nodes.now 0 }
-    requires bookmark_le_top { (bookmark ≤ top) × Tallied start }
-    ensures floor_le_top { (result.floor ≤ top) × Tallied result.readers }
-    ensures pages_to { PagesTo numbers.now ends.now nodes.now (state_of bookmark start) row.old result row.new }
+pub fn draw_page(generator: &Generator, start: Readers, bookmark: u64, row: &mut [u32]) -> Page
+    requires standing { Standing (length generator.now.ends.now) generator.now.nodes.now 0 }
+    requires bookmark_le_top { bookmark ≤ top }
+    ensures floor_le_top { result.floor ≤ top }
+    ensures pages_to { PagesTo generator.now.numbers.now generator.now.ends.now generator.now.nodes.now (state_of bookmark start) row.old result row.new }
 {
     let mut readers = start;
     let mut floor = bookmark;
-    let mut i = 0;
-    while i < row.len() {
-        let s = engine::draw(numbers, ends, nodes, behind, readers, floor);
+    for i in 0..row.len() {
+        let s = engine::draw(generator, readers, floor);
         let reply = s.reply;
         readers = s.readers;
         floor = s.floor;
@@ -55,10 +44,9 @@ pub fn draw_page(
             };
         };
         row[i] = x;
-        i += 1;
     }
     Page {
-        count: i,
+        count: row.len(),
         floor,
         readers,
         finished: false,

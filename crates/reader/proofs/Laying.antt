@@ -8,14 +8,13 @@ use native.Mathlib.Omega.{arith}
 use lib.ListN.{length, get_or, replicate, length-map}
 use Rattle.model.specs.declared.Node.{Node}
 use Rattle.model.specs.declared.Node.TheVariants.{Leaf, Difference, Union, Intersection}
-use Rattle.model.specs.Outcome.{Outcome, refused, accepted, number_of}
+use Rattle.model.specs.Outcome.{Outcome, refused, accepted}
 use Rattle.model.specs.Lists.{Lent}
 use Rattle.model.specs.Expression.{Tree, leaf, difference, union, intersection, Members, one, more, size, sizes, count}
 use Rattle.model.specs.Forms.{nodes, nodes_all, row_byte, row, LeafTest, read_packed}
 use Rattle.model.specs.Run.{named_in}
 use Rattle.model.specs.Demands.{Named, NamedAll, Expression}
-use Rattle.model.proofs.Accepted.{there-is, packed_reads}
-use Rattle.model.proofs.Told.{zero_accepts, there_told, packed_told, refused_by}
+use Rattle.model.proofs.Accepted.{there-is, packed_reads, never_accepted, accepted-same}
 use Rattle.model.proofs.Shape.{row-long}
 use Rattle.model.proofs.Trees.{Writable, count_pos, byte_node}
 use Rattle.expression.specs.declared.Expression as declared
@@ -82,30 +81,22 @@ row_stands test lists t within few x = stands test lists within few (row t ++ re
 
 -- ---- what reading a packed expression over lent lists has handed back
 
-number_is : (o : Outcome Tree) {r : declared.Expression} → r ≡ expression_of o → r.number ≡ number_of o
-unfolding expression_of number_of
-number_is (refused n) e = rw e
-number_is (accepted t) e = rw e
-
-read_stands : (l : Lent) (packed : List ℕ) {r : declared.Expression} (t : Tree) → length l.ends ≤ 32 → read_packed (named_in l) packed ≡ accepted t
-    → r ≡ expression_of (read_packed (named_in l) packed) → Stands (length l.ends) r.nodes t 0
-unfolding expression_of
-read_stands l packed t few e f =
+read_stands : (l : Lent) (packed : List ℕ) (t : Tree) → length l.ends ≤ 32 → read_packed (named_in l) packed ≡ accepted t → Stands (length l.ends) (row t ++ replicate (48 - size t) 0) t 0
+read_stands l packed t few e =
     let lists : ℕ = length l.ends in
-    rw (f ∙ ap expression_of e) (row_stands (named_in l) lists t (there-is lists l.word) few (packed_reads (named_in l) packed t e))
+    row_stands (named_in l) lists t (there-is lists l.word) few (packed_reads (named_in l) packed t e)
 
--- with number 0: a tree, which stands at the first node
+-- a tree, which stands at the first node
 pub record ReadOver (l : Lent) (packed : List ℕ) (r : declared.Expression) : Type 0 where
   pub tree : Tree
   pub is : read_packed (named_in l) packed ≡ accepted tree
   pub stands : Stands (length l.ends) r.nodes tree 0
 
-module _ (l : Lent) (packed : List ℕ) {r : declared.Expression} (e : r ≡ expression_of (read_packed (named_in l) packed)) where
-  pub read_over : length l.ends ≤ 32 → r.number ≡ 0 → ReadOver l packed r
-  read_over few z =
-      let s = zero_accepts (read_packed (named_in l) packed) (packed_told (named_in l) (there_told (length l.ends) l.word) packed) (sym (number_is _ e) ∙ z) in
-      record { tree = s.got; is = s.is; stands = read_stands l packed s.got few s.is e }
-
-  -- with another: its refusal
-  pub refused_over : (r.number ≡ 0 → ⊥) → read_packed (named_in l) packed ≡ refused r.number
-  refused_over h = refused_by (read_packed (named_in l) packed) (λ z. h (number_is _ e ∙ z)) ∙ ap refused (sym (number_is _ e))
+pub read_over : (l : Lent) (packed : List ℕ) {r : declared.Expression} → length l.ends ≤ 32 → accepted r ≡ expression_of (read_packed (named_in l) packed) → ReadOver l packed r
+unfolding expression_of
+read_over l packed {r} few e = go (read_packed (named_in l) packed) refl e
+  where
+    go : (o : Outcome Tree) → read_packed (named_in l) packed ≡ o → accepted r ≡ expression_of o → ReadOver l packed r
+    go (refused n) is e = never_accepted (sym e)
+    go (accepted t) is e =
+        record { tree = t; is = is; stands = rw (ap (λ (x : declared.Expression). x.nodes) (accepted-same e)) (read_stands l packed t few is) }

@@ -16,9 +16,9 @@ use Rattle.model.specs.Demands.{sum}
 use Rattle.model.proofs.Order.{and_true, split, Up, up_drop}
 use Rattle.model.proofs.Hops.{passed_on, passed_off, passed-le, up_le, hops-far, hops-near, hopping_off, hops_on, grown-same, moves-le, grown-far}
 use Rattle.model.proofs.Places.{sum-set}
-use Rattle.reader.specs.declared.Readers.{Readers}
 use Rattle.reader.specs.declared.ReadResult.{ReadResult}
-use Rattle.reader.specs.Sought.{found, Tallied, Sound, below, Hopped, Advanced, Read, Stays}
+use Rattle.reader.specs.Tally.{Tallied}
+use Rattle.reader.specs.Sought.{found, below, Hopped, Advanced, Read, Stays}
 use Rattle.reader.proofs.Answers.{found_at, found-end}
 
 -- ---- one turn, at a place of the list
@@ -140,18 +140,29 @@ below_set (p ∷ ps) zero x most (suc j) h k = k
 below_set (p ∷ ps) (suc i) x most zero h k = k
 below_set (p ∷ ps) (suc i) x most (suc j) h k = below_set ps i x most j h k
 
--- no reader has moved
-none-there : (n i : ℕ) → get_or (replicate n 0) i 0 ≤ 0
-none-there zero i = omega arith
-none-there (suc n) zero = omega arith
-none-there (suc n) (suc i) = none-there n i
-
-pub none_moved : Tallied (record { places = replicate 48 0; moves = 0 })
+-- readers that have made no move
+pub none_moved : Tallied (replicate 48 0) 0
 none_moved = record { many = refl; small = λ i. omega (arith, none-there 48 i); within = omega arith }
+  where
+    none-there : (n i : ℕ) → get_or (replicate n 0) i 0 ≤ 0
+    none-there zero i = omega arith
+    none-there (suc n) zero = omega arith
+    none-there (suc n) (suc i) = none-there n i
 
 -- 48 places of 16 bits sum to far less than 32 bits hold
-pub moves-few : (rs : Readers) → Tallied rs → rs.moves ≤ 48 * 65535
-moves-few rs t = omega (arith, t.within, rw t.many at (sum_bound rs.places 65535 t.small))
+pub moves-few : (places : List ℕ) (moves : ℕ) → Tallied places moves → moves ≤ 48 * 65535
+moves-few places moves t = omega (arith, t.within, rw t.many at (sum_bound places 65535 t.small))
+
+-- a reader comes to a place, by so many moves
+pub moved_tallied : (places : List ℕ) (moves i place n : ℕ) → Tallied places moves → i < 48 → place ≤ 65535 → get_or places i 0 + n ≤ place → Tallied (set places i place) (moves + n)
+moved_tallied places moves i place n t here small within =
+    let more : get_or places i 0 + (place - get_or places i 0) ≡ place = omega arith in
+    let grown = rw more at (sum-set places i (place - get_or places i 0) (omega (arith, t.many))) in
+    record {
+      many = length-set places i place ∙ t.many;
+      small = λ j. below_set places i place 65535 j small (t.small j);
+      within = omega (arith, grown, t.within);
+    }
 
 -- the readers after the reader of the node i has come to a place, by so many moves
 abbrev after : model.Readers → ℕ → ℕ → ℕ → model.Readers
@@ -216,24 +227,3 @@ stays l place e r reads z = record {
       let moves : rs.moves + r.moves ≡ rs.moves = omega (arith, z) in
       rw (places, moves) at (reads.is i rs here);
 }
-
--- ---- a node's reader has stepped: what the readers are then
-module _ {l : List ℕ} {e : ℕ} {r : ReadResult} (rs : Readers) (i : ℕ) (reads : Read l (get_or rs.places i 0) e r) (here : i < 48) (t : Tallied rs) where
-  abbrev pub stepped : Readers
-  stepped = record { places = set rs.places i r.place; moves = rs.moves + r.moves }
-
-  pub stepped_tallied : Tallied stepped
-  stepped_tallied =
-      let more : get_or rs.places i 0 + (r.place - get_or rs.places i 0) ≡ r.place = omega (arith, reads.within) in
-      let grown = rw more at (sum-set rs.places i (r.place - get_or rs.places i 0) (omega (arith, t.many))) in
-      record {
-        many = length-set rs.places i r.place ∙ t.many;
-        small = λ j. below_set rs.places i r.place 65535 j reads.small (t.small j);
-        within = omega (arith, grown, t.within, reads.within);
-      }
-
-  pub stepped_sound : Sound e (record { readers = stepped; answer = r.answer })
-  stepped_sound = record { above = reads.above; low = reads.low; tallied = stepped_tallied }
-
-  pub stepped-fits : rs.moves + r.moves ≤ 48 * 65535
-  stepped-fits = moves-few stepped stepped_tallied

@@ -1,3 +1,4 @@
 -- What the generators' functions say beside the definitions of the model.
 pub mod Rows
 pub mod Sought
+pub mod Tally

@@ -1,13 +1,12 @@
 -- The readers as the code has them, what a seek hands back, and what a list's own step does.
-use Rattle.std.specs.Prelude.{◌≡◌, Bool, true, false, ◌&&◌, List, [], ℕ, ◌+◌, ◌*◌, ◌≤◌, ◌<◌, ltb, length, get_or, set, drop}
+use Rattle.std.specs.Prelude.{◌≡◌, Bool, true, false, ◌&&◌, List, [], ℕ, ◌+◌, ◌*◌, ◌≤◌, ◌<◌, ltb, length, get_or, set, drop, replicate}
 use Rattle.model.specs.declared.Node.TheVariants.{Leaf}
 use Rattle.model.specs.Outcome.{accepted}
 use Rattle.model.specs.Lists.{top, lists_from}
 use Rattle.model.specs.Forms.{node_of}
 use Rattle.model.specs.Steps as model
 use Rattle.model.specs.Steps.{Found, end, at, hops, hopping, read}
-use Rattle.model.specs.Demands.{sum}
-use Rattle.reader.specs.declared.Readers.{Readers}
+use Rattle.reader.specs.declared.readers.Readers.{Readers}
 use Rattle.reader.specs.declared.SeekResult.{SeekResult}
 use Rattle.reader.specs.declared.ReadResult.{ReadResult}
 use Rattle.reader.specs.declared.MemberRead.{MemberRead}
@@ -17,6 +16,14 @@ use Rattle.reader.specs.declared.MemberRead.TheVariants.{Still, Moved, Operator}
 abbrev pub readers_of : Readers → model.Readers
 readers_of r = record { places = r.places; moves = r.moves }
 
+-- readers at the start of their lists
+abbrev pub none_read : model.Readers
+none_read = record { places = replicate 48 0; moves = 0 }
+
+-- the reader of the node i has made a step
+abbrev pub has_read : ℕ → ReadResult → model.Readers → model.Readers
+has_read i r rs = record { places = set rs.places i r.place; moves = rs.moves + r.moves }
+
 -- an answer: "finished" is 4,294,967,296, which no number reaches
 unfoldable pub found : ℕ → model.Readers → Found
 found x rs = elim (ltb x top) [ true ↦ at x rs | false ↦ end rs ]
@@ -24,17 +31,10 @@ found x rs = elim (ltb x top) [ true ↦ at x rs | false ↦ end rs ]
 abbrev pub found_of : SeekResult → Found
 found_of s = found s.answer (readers_of s.readers)
 
--- 48 places of 16 bits, and moves within their sum, which is why they never pass a 32-bit count
-pub record Tallied (r : Readers) : Type 0 where
-  pub many : length r.places ≡ 48
-  pub small : (i : ℕ) → get_or r.places i 0 ≤ 65535
-  pub within : r.moves ≤ sum r.places
-
--- what a seek to e hands back: an answer not below e, and readers that are kept so
+-- what a seek to e hands back: an answer not below e
 pub record Sound (e : ℕ) (s : SeekResult) : Type 0 where
   pub above : e ≤ s.answer
   pub low : s.answer ≤ top
-  pub tallied : Tallied s.readers
 
 -- "the place is inside the list and the number there is below E"
 unfoldable pub below : List ℕ → ℕ → ℕ → Bool
@@ -59,7 +59,7 @@ pub record Read (l : List ℕ) (place e : ℕ) (r : ReadResult) : Type 0 where
   pub within : place + r.moves ≤ r.place
   pub still : r.moves ≡ 0 → r.place ≡ place
   pub is : (i : ℕ) (rs : model.Readers) → get_or rs.places i 0 ≡ place
-      → found r.answer (record { places = set rs.places i r.place; moves = rs.moves + r.moves }) ≡ read l i e rs
+      → found r.answer (has_read i r rs) ≡ read l i e rs
 
 -- a step that leaves the reader at its place, with the answer x
 pub record Stays (l : List ℕ) (place e x : ℕ) : Type 0 where

@@ -13,17 +13,14 @@ ghost use Rattle.lists.specs.Readable.{Readable};
 ghost use Rattle.reader.specs.Rows.{Behind, siblings};
 ghost use Rattle.reader.specs.Sought.{below, Hopped, Advanced, Read, Reads};
 
-use expression::Kind;
+pub mod generator;
+pub mod readers;
+
+pub use generator::Generator;
+pub use readers::Readers;
 
 // The answer of a seek that is finished: the first whole number that is no number of a list.
 pub const FINISHED: u64 = 4294967296;
-
-// The readers of a run, "one place for each of the 48 possible nodes in expression order", and their moves.
-#[derive(Drop)]
-pub struct Readers {
-    pub places: [u16; 48],
-    pub moves: u32,
-}
 
 // What a seek hands back: the readers after it, and the number that it answers or FINISHED.
 #[derive(Drop)]
@@ -47,36 +44,6 @@ pub enum MemberRead {
     Still(u64),
     Moved(ReadResult),
     Operator,
-}
-
-// A number of 32 bits as an answer.
-pub fn wide(x: u32) -> u64
-    ensures { result ≡ x }
-{
-    x as u64
-}
-
-// A place as an index.
-fn index(x: u16) -> usize
-    ensures { (result ≡ x) × (result ≤ 65535) }
-{
-    x as usize
-}
-
-// An index up to a list's end as a place.
-fn place_of(x: usize) -> u16
-    requires { x ≤ 65535 }
-    ensures { result ≡ x }
-{
-    x as u16
-}
-
-// A count of moves within one list.
-fn moves_of(x: usize) -> u32
-    requires { x ≤ 65535 }
-    ensures { result ≡ x }
-{
-    x as u32
 }
 
 // How a reader goes over its list: the place that it comes to, and how many moves that counts.
@@ -105,7 +72,7 @@ fn hop(list: &[u32], place: usize, to: u64) -> Progress
 {
     let mut at = place;
     while at + 64 <= list.len() {
-        if to <= wide(list[at + 63]) {
+        if to <= u64::from(list[at + 63]) {
             return hops_between(place, at);
         }
         at += 64;
@@ -117,7 +84,7 @@ fn hop(list: &[u32], place: usize, to: u64) -> Progress
 fn passes(list: &[u32], at: usize, to: u64) -> bool
     ensures { result ≡ below list.now at to }
 {
-    at < list.len() && wide(list[at]) < to
+    at < list.len() && u64::from(list[at]) < to
 }
 
 // "move while" it passes: the place after it.
@@ -173,22 +140,22 @@ pub fn read_list(numbers: &[u32], ends: &[u32], k: usize, place: u16, to: u64) -
     let from = lists::start_of(ends, k);
     let stop = lists::start_of(ends, k + 1);
     let list = &numbers[from..stop];
-    let before = index(place);
+    let before = usize::from(place);
     let went = advance(list, before, to);
     let at = went.at;
-    let moves = moves_of(went.moves);
-    let after = place_of(at);
+    let moves = went.moves as u32;
+    let place = at as u16;
     if at < list.len() {
         ReadResult {
-            answer: wide(list[at]),
+            answer: u64::from(list[at]),
             moves,
-            place: after,
+            place,
         }
     } else {
         ReadResult {
             answer: FINISHED,
             moves,
-            place: after,
+            place,
         }
     }
 }
@@ -201,7 +168,7 @@ pub fn read_member(numbers: &[u32], ends: &[u32], byte: u8, place: u16, to: u64)
 {
     match byte {
         0..=31 => {
-            let r = read_list(numbers, ends, expression::wide(byte), place, to);
+            let r = read_list(numbers, ends, byte as usize, place, to);
             if r.moves == 0 {
                 return MemberRead::Still(r.answer);
             }
@@ -215,8 +182,7 @@ pub fn read_member(numbers: &[u32], ends: &[u32], byte: u8, place: u16, to: u64)
 fn members_at(b: u8) -> u8
     ensures { (n : Node) → node_of b ≡ accepted n → result ≡ members n }
 {
-    let kind = expression::node_of(b);
-    let Kind::Known(node) = kind else {
+    let Ok(node) = expression::node_of(b) else {
         return 0;
     };
     expression::members_of(node)
@@ -227,12 +193,10 @@ fn end_of(behind: &[usize; 48], first: usize, members: u8) -> usize
     ensures { result ≡ siblings behind.now members first }
 {
     let mut at = first;
-    let mut left = members;
-    while 0 < left {
+    for _ in 0..members {
         if at < 48 {
             at = behind[at];
         }
-        left -= 1;
     }
     at
 }
@@ -242,9 +206,7 @@ pub fn node_ends(nodes: &[u8; 48]) -> [usize; 48]
     ensures { Behind nodes.now result }
 {
     let mut behind = [0usize; 48];
-    let mut node: usize = 48;
-    while 0 < node {
-        node -= 1;
+    for node in (0..48).rev() {
         let end = end_of(&behind, node + 1, members_at(nodes[node]));
         behind[node] = end;
     }

@@ -1,44 +1,30 @@
 // The limits of an expression: 48 nodes, operators of 8 members, depth 12.
-use crate::rows::{DIFFERENCE, members, node};
+use crate::rows::{DIFFERENCE, members, nodes};
 use cases::Row;
 use cases::trees::next_depth;
 
-// How many nodes are owed at each depth, and whether all before them are within the limits.
-#[derive(Clone, Copy)]
-struct Descent {
-    left: [u8; 13],
-    within: bool,
+// How many nodes are owed at each depth behind one node more, which stands at the deepest depth that owes any; none past the limits.
+fn past(owed: [u8; 13], node: u8) -> Option<[u8; 13]> {
+    let mut left = owed;
+    let depth = next_depth(owed);
+    left[depth] = owed[depth].saturating_sub(1);
+    if DIFFERENCE <= node {
+        let n = members(node);
+        if 8 < n {
+            return None;
+        }
+        *left.get_mut(depth + 1)? = n as u8;
+    }
+    Some(left)
 }
 
-fn less_one(x: u8) -> u8 {
-    if x > 0 { x - 1 } else { 0 }
-}
-
-// The descent past one node more, which stands at the deepest depth that owes any.
-fn past(d: Descent, node: u8) -> Descent {
-    let mut e = d;
-    let left = d.left;
-    let depth = next_depth(left);
-    e.left[depth] = less_one(left[depth]);
-    if node < DIFFERENCE {
-        return e;
+pub fn is_within(row: &Row) -> bool {
+    let mut left = [0, 1, 0, 0, 0, 0, 0, 0, 0, 0, 0, 0, 0];
+    for node in nodes(row) {
+        let Some(owed) = past(left, *node) else {
+            return false;
+        };
+        left = owed;
     }
-    let n = members(node);
-    if depth < 12 && n <= 8 {
-        e.left[depth + 1] = n as u8;
-        return e;
-    }
-    e.within = false;
-    e
-}
-
-pub fn is_within(row: Row) -> bool {
-    let mut d = Descent {
-        left: [0, 1, 0, 0, 0, 0, 0, 0, 0, 0, 0, 0, 0],
-        within: 0 < row.count && row.count <= 48,
-    };
-    for i in 0..row.count {
-        d = past(d, node(row, i));
-    }
-    d.within
+    0 < row.count && row.count <= 48
 }

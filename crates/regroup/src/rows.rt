@@ -2,6 +2,7 @@
 ghost use Rattle.std.specs.Prelude.{◌<◌};
 
 use cases::Row;
+use std::ops::Range;
 
 // Node bytes: 64 a difference, 128 and 192 with the number of members a union and an intersection.
 pub const DIFFERENCE: u8 = 64;
@@ -10,14 +11,18 @@ pub const UNION: u8 = 128;
 
 pub const INTERSECTION: u8 = 192;
 
+// The nodes that there are.
+pub(crate) fn nodes(row: &Row) -> &[u8] {
+    row.bytes.get(..row.count).unwrap_or(&row.bytes)
+}
+
 // The node at a place.
-pub fn node(row: Row, at: usize) -> u8 {
-    let i = at % 48;
-    row.bytes[i]
+pub fn node(row: &Row, at: usize) -> u8 {
+    row.bytes[at % 48]
 }
 
 pub fn is_union(node: u8) -> bool {
-    UNION <= node && node < INTERSECTION
+    (UNION..INTERSECTION).contains(&node)
 }
 
 pub fn is_intersection(node: u8) -> bool {
@@ -28,36 +33,28 @@ pub fn is_intersection(node: u8) -> bool {
 pub fn members(node: u8) -> usize
     ensures { result < 64 }
 {
-    if node < DIFFERENCE {
-        return 0;
+    match node {
+        0..DIFFERENCE => 0,
+        DIFFERENCE => 2,
+        _ => usize::from(node % 64),
     }
-    if node == DIFFERENCE {
-        return 2;
-    }
-    (node % 64) as usize
 }
 
 // Where the node at a place ends: one behind the last of its nodes.
-pub fn after(row: Row, from: usize) -> usize {
+pub fn after(row: &Row, from: usize) -> usize {
     let mut owed: usize = 1;
-    let mut at = from;
-    while at < 48 {
+    for at in from..48 {
         if owed == 0 {
             return at;
         }
-        owed = (owed % 128 + 127 + members(node(row, at))) % 128;
-        at += 1;
+        owed = (owed - 1).wrapping_add(members(node(row, at)));
     }
-    at
+    from.max(48)
 }
 
 // Where member k of the node at a place begins.
-pub fn member(row: Row, at: usize, k: usize) -> usize {
-    let mut place = at % 48 + 1;
-    for i in 0..k {
-        place = after(row, place);
-    }
-    place
+pub fn member(row: &Row, at: usize, k: usize) -> usize {
+    (0..k).fold(at % 48 + 1, |place, _| after(row, place))
 }
 
 // No nodes.
@@ -71,44 +68,31 @@ pub fn empty() -> Row {
 // One node more; a row of more than 48 has the count 49, and keeps no more.
 pub fn with_node(row: Row, node: u8) -> Row {
     let mut more = row;
-    let at = row.count;
-    if at < 48 {
-        more.bytes[at] = node;
-        more.count = at + 1;
-        return more;
+    match more.bytes.get_mut(row.count) {
+        Some(place) => {
+            *place = node;
+            more.count = row.count + 1;
+        }
+        None => more.count = 49,
     }
-    more.count = 49;
     more
 }
 
 // So many differences more.
 pub fn with_differences(row: Row, n: usize) -> Row {
-    let differences = Row {
-        bytes: [DIFFERENCE; 48],
-        count: 48,
-    };
-    with_part(row, differences, 0, n)
+    (0..n).fold(row, |more, _| with_node(more, DIFFERENCE))
 }
 
-// The nodes of another row from a place up to one more.
-pub fn with_part(row: Row, from: Row, start: usize, end: usize) -> Row {
-    let mut more = row;
-    for i in start..end {
-        more = with_node(more, node(from, i));
-    }
-    more
-}
-
-// The greater of two numbers.
-fn greater(a: usize, b: usize) -> usize {
-    if a < b { b } else { a }
+// The nodes of another row at these places more.
+pub fn with_part(row: Row, from: &Row, places: Range<usize>) -> Row {
+    places.fold(row, |more, at| with_node(more, node(from, at)))
 }
 
 // The most members that a node of a row has.
-pub fn widest(row: Row) -> usize {
-    let mut most: usize = 0;
-    for i in 0..row.count {
-        most = greater(most, members(node(row, i)));
-    }
-    most
+pub fn widest(row: &Row) -> usize {
+    nodes(row)
+        .iter()
+        .map(|node| members(*node))
+        .max()
+        .unwrap_or(0)
 }

@@ -1,11 +1,11 @@
 // Regroupings drawn from a case's number, one after another.
-ghost use Rattle.std.specs.Prelude.{◌<◌};
-
 use crate::limits::is_within;
-use crate::rows::{DIFFERENCE, INTERSECTION, UNION, member, members, node};
+use crate::rows::{DIFFERENCE, INTERSECTION, is_intersection, is_union, member, members, node};
 use crate::steps;
+use crate::steps::is_many;
 use cases::Row;
 use cases::dice::pick;
+use std::ops::Range;
 
 // What the numbers of this file are drawn for.
 const KIND: u64 = 800;
@@ -16,164 +16,126 @@ const MEMBER: u64 = 802;
 
 const SIZE: u64 = 803;
 
-// The kinds, which `kinds` counts: members exchanged, opened out, closed in, a difference divided, differences gathered, distributed.
-const OPENED: u64 = 1;
+// The kinds, which `kinds` counts in this order: members exchanged, opened out, closed in, a difference divided, differences gathered,
+// distributed.
+#[derive(Clone, Copy, Debug, PartialEq, Eq)]
+pub enum Kind {
+    Exchanged,
+    Opened,
+    Closed,
+    Divided,
+    Gathered,
+    Distributed,
+}
 
-const CLOSED: u64 = 2;
+const KINDS: [Kind; 6] = [
+    Kind::Exchanged,
+    Kind::Opened,
+    Kind::Closed,
+    Kind::Divided,
+    Kind::Gathered,
+    Kind::Distributed,
+];
 
-const DIVIDED: u64 = 3;
-
-const GATHERED: u64 = 4;
-
-const DISTRIBUTED: u64 = 5;
+impl Kind {
+    // Whether a node is one that the kind is for.
+    fn is_for(self, node: u8) -> bool {
+        match self {
+            Kind::Divided | Kind::Gathered => node == DIFFERENCE,
+            Kind::Distributed => is_intersection(node),
+            Kind::Exchanged | Kind::Opened | Kind::Closed => is_many(node),
+        }
+    }
+}
 
 // A row regrouped, and how often by each kind.
-#[derive(Drop)]
+#[derive(Clone, Copy)]
 pub struct Regrouped {
     pub row: Row,
     pub kinds: [u64; 6],
 }
 
-fn index(x: u64) -> usize {
-    x as usize
-}
-
 // Among so many.
 fn among(case: u64, purpose: u64, turn: u64, below: usize) -> usize {
-    index(pick(case, purpose, turn, below as u64))
+    pick(case, purpose, turn, below as u64) as usize
 }
 
-fn is_from(node: u8, least: u8, greatest: u8) -> bool {
-    least <= node && node <= greatest
+// The place of a node that a kind is for, the first from a place on and then from the front; that place where there is none.
+fn place_of(row: &Row, start: usize, kind: Kind) -> usize {
+    (start..row.count)
+        .chain(0..start)
+        .find(|at| kind.is_for(node(row, *at)))
+        .unwrap_or(start)
 }
 
-// The place of a node from `least` to `greatest`, the first from a place on and then from the front; that place where there is none.
-fn place_of(row: Row, start: usize, least: u8, greatest: u8) -> usize {
-    let from = start % 48;
-    for i in 0..48usize {
-        let at = (from + i) % 48;
-        if at < row.count && is_from(node(row, at), least, greatest) {
-            return at;
-        }
-    }
-    from
-}
-
-// The same of a node's members.
-fn member_of(row: Row, at: usize, start: usize, least: u8, greatest: u8) -> usize {
-    let n = members(node(row, at));
-    let from = start % 64;
-    for i in 0..n {
-        let k = (from + i) % n;
-        if is_from(node(row, member(row, at, k)), least, greatest) {
-            return k;
-        }
-    }
-    from
-}
-
-// The least and the greatest node that a kind is for.
-fn least(kind: u64) -> u8 {
-    match kind {
-        DIVIDED => DIFFERENCE,
-        GATHERED => DIFFERENCE,
-        DISTRIBUTED => INTERSECTION,
-        _ => UNION,
-    }
-}
-
-fn greatest(kind: u64) -> u8 {
-    match kind {
-        DIVIDED => DIFFERENCE,
-        GATHERED => DIFFERENCE,
-        _ => 255,
-    }
-}
-
-fn lesser(a: usize, b: usize) -> usize {
-    if a < b { a } else { b }
-}
-
-fn greater(a: usize, b: usize) -> usize {
-    if a < b { b } else { a }
-}
-
-// How many members there are from one to another, both included.
-fn extent(a: usize, b: usize) -> usize {
-    if a < b {
-        (b - a) % 8 + 1
-    } else {
-        (a - b) % 8 + 1
-    }
+// The same of a node's members, a union or an intersection as is wanted.
+fn member_of<F: Fn(u8) -> bool>(row: &Row, at: usize, start: usize, wanted: F) -> usize
+    requires { F.IsAlwaysCallable wanted }
+{
+    (start..members(node(row, at)))
+        .chain(0..start)
+        .find(|k| wanted(node(row, member(row, at, *k))))
+        .unwrap_or(start)
 }
 
 // A member that is a union where the node is one, and an intersection where it is one.
-fn alike_of(row: Row, at: usize, start: usize) -> usize {
+fn alike_of(row: &Row, at: usize, start: usize) -> usize {
     if node(row, at) < INTERSECTION {
-        return member_of(row, at, start, UNION, INTERSECTION - 1);
+        member_of(row, at, start, is_union)
+    } else {
+        member_of(row, at, start, is_intersection)
     }
-    member_of(row, at, start, INTERSECTION, 255)
 }
 
-// A row regrouped by a kind at a place that is drawn; of no nodes where the kind does not apply there.
-fn step(row: Row, case: u64, turn: u64, kind: u64) -> Row {
-    let start = among(case, PLACE, turn, row.count);
-    let at = place_of(row, start, least(kind), greatest(kind));
+// A row regrouped by a kind at a place that is drawn; none where the kind does not apply there.
+fn step(row: &Row, case: u64, turn: u64, kind: Kind) -> Option<Row> {
+    let at = place_of(row, among(case, PLACE, turn, row.count), kind);
     let n = members(node(row, at));
     let k = among(case, MEMBER, turn, n);
     let other = among(case, SIZE, turn, n);
     match kind {
-        OPENED => steps::opened(row, at, alike_of(row, at, k)),
-        CLOSED => steps::closed(row, at, lesser(k, other), extent(k, other)),
-        DIVIDED => steps::divided(row, at),
-        GATHERED => steps::gathered(row, at, 1 + among(case, SIZE, turn, 8) % 8),
-        DISTRIBUTED => steps::distributed(row, at, member_of(row, at, k, UNION, INTERSECTION - 1)),
-        _ => steps::exchanged(row, at, lesser(k, other), greater(k, other)),
+        Kind::Exchanged => steps::exchanged(row, at, k.min(other), k.max(other)),
+        Kind::Opened => steps::opened(row, at, alike_of(row, at, k)),
+        Kind::Closed => steps::closed(row, at, k.min(other), k.abs_diff(other) % 8 + 1),
+        Kind::Divided => steps::divided(row, at),
+        Kind::Gathered => steps::gathered(row, at, 1 + among(case, SIZE, turn, 8) % 8),
+        Kind::Distributed => steps::distributed(row, at, member_of(row, at, k, is_union)),
     }
 }
 
-// Where a kind is counted.
-fn slot(kind: u64) -> usize
-    ensures { result < 6 }
+// A row by turns, each of its kind. What would pass the limits of an expression is left as it was.
+fn by_turns<F: Fn(u64) -> Kind>(row: Row, case: u64, turns: Range<u64>, kind_of: F) -> Regrouped
+    requires { F.IsAlwaysCallable kind_of }
 {
-    (kind % 6) as usize
-}
-
-// One turn more. What would pass the limits of an expression is left as it was.
-fn turned(r: Regrouped, case: u64, turn: u64, kind: u64) -> Regrouped {
-    let row = r.row;
-    let made = step(row, case, turn, kind);
-    if !is_within(made) {
-        return r;
-    }
-    let mut kinds = r.kinds;
-    let i = slot(kind);
-    kinds[i] = std::num::wrapping_add_u64(kinds[i], 1);
-    Regrouped { row: made, kinds }
-}
-
-// The kind of a turn: any, or one of the two that make nests.
-fn kind_of(case: u64, turn: u64, nests: bool) -> u64 {
-    if nests {
-        return CLOSED + 2 * (pick(case, KIND, turn, 2) % 2);
-    }
-    pick(case, KIND, turn, 6)
-}
-
-fn by_turns(row: Row, case: u64, from: u64, to: u64, nests: bool) -> Regrouped {
     let mut r = Regrouped { row, kinds: [0; 6] };
-    for turn in from..to {
-        r = turned(r, case, turn, kind_of(case, turn, nests));
+    for turn in turns {
+        let kind = kind_of(turn);
+        let made = step(&r.row, case, turn, kind);
+        if let Some(row) = made.filter(is_within) {
+            let count = &mut r.kinds[kind as usize];
+            *count = count.wrapping_add(1);
+            r.row = row;
+        }
     }
     r
 }
 
-// A case's expression with unions and intersections in each other, and differences with a union behind them, for turns to open.
+// A case's expression with unions and intersections in each other, and differences with a union behind them, for turns to open. The
+// kinds are the two that make nests.
 pub fn nested(row: Row, case: u64) -> Row {
-    by_turns(row, case, 0, 4, true).row
+    let kind_of = |turn: u64| {
+        if pick(case, KIND, turn, 2) == 0 {
+            Kind::Closed
+        } else {
+            Kind::Gathered
+        }
+    };
+    by_turns(row, case, 0..4, kind_of).row
 }
 
-// A case's expression regrouped, by up to 16 turns.
+// A case's expression regrouped, by up to 16 turns, each of any kind.
 pub fn regrouping(row: Row, case: u64) -> Regrouped {
-    by_turns(row, case, 4, 20, false)
+    by_turns(row, case, 4..20, |turn| {
+        KINDS[among(case, KIND, turn, 6) % 6]
+    })
 }

@@ -4,7 +4,7 @@ use compare::totals;
 
 // The regrouped expressions' runs, the regroupings by kind, and how many rows were others, had 48 nodes, had an operator of eight, and
 // had other moves.
-#[derive(Drop)]
+#[derive(Clone, Copy, Default)]
 pub struct Totals {
     pub runs: totals::Totals,
     pub kinds: [u64; 6],
@@ -14,46 +14,20 @@ pub struct Totals {
     pub moved: u64,
 }
 
-pub fn none() -> Totals {
-    Totals {
-        runs: totals::none(),
-        kinds: [0; 6],
-        others: 0,
-        full: 0,
-        wide: 0,
-        moved: 0,
-    }
+fn add(sum: &mut u64, by: u64) {
+    *sum = sum.wrapping_add(by);
 }
 
-fn more(n: u64, by: u64) -> u64 {
-    std::num::wrapping_add_u64(n, by)
-}
-
-fn more_if(n: u64, x: bool) -> u64 {
-    if x { more(n, 1) } else { n }
-}
-
-fn sums(a: [u64; 6], b: [u64; 6]) -> [u64; 6] {
-    [
-        more(a[0], b[0]),
-        more(a[1], b[1]),
-        more(a[2], b[2]),
-        more(a[3], b[3]),
-        more(a[4], b[4]),
-        more(a[5], b[5]),
-    ]
-}
-
-// One case more.
-pub fn with_case(t: Totals, o: Outcome) -> Totals {
-    let kinds = t.kinds;
-    let others = o.kinds;
-    Totals {
-        runs: totals::with_run(t.runs, o.verdict),
-        kinds: sums(kinds, others),
-        others: more_if(t.others, o.other_row),
-        full: more_if(t.full, o.nodes == 48),
-        wide: more_if(t.wide, o.widest == 8),
-        moved: more_if(t.moved, o.other_moves),
+impl Totals {
+    // One case more.
+    pub fn add_case(&mut self, o: &Outcome) {
+        self.runs.add_run(&o.verdict);
+        for (sum, kind) in self.kinds.iter_mut().zip(&o.kinds) {
+            add(sum, *kind);
+        }
+        add(&mut self.others, u64::from(o.other_row));
+        add(&mut self.full, u64::from(o.nodes == 48));
+        add(&mut self.wide, u64::from(o.widest == 8));
+        add(&mut self.moved, u64::from(o.other_moves));
     }
 }

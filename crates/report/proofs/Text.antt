@@ -8,24 +8,31 @@ use native.Mathlib.Numerals.{add-one}
 use native.Mathlib.Omega.{arith}
 use borrow.Author.Tests.{lt-ltb, le-ltb}
 use lib.Dec.{ltb}
-use lib.ListN.{length, get_or, take, drop, set, length-append, drop_of_length-le}
-use lib.Seq.{drop-cons}
+use lib.ListN.{length, get_or, take, drop, length-append, drop_of_length-le}
+use lib.Seq.{drop-cons, drop-drop}
+use borrow.Rule.Slice.PartMut.{put_mid}
+use Rattle.std.specs.Fmt.{decimal as printed}
+use Rattle.std.proofs.lemmas.Fmt.{decimal_by_steps}
 use Rattle.fields.specs.Rows.{lay}
-use Rattle.fields.proofs.Rows.{lay-copied, lay-append, lay-take}
+use Rattle.fields.proofs.Rows.{lay-length, lay-append, lay-take}
 use Rattle.report.specs.Text.{digits, decimal, line, lines}
 
--- ---- a word
+-- ---- pieces laid
 
--- one byte more of a word that is copied to `at`
-pub lay-next : (row from : List ℕ) (at i : ℕ) → i < length from → at + i < length row → lay (set row (at + i) (get_or from i 0)) (at + (i + 1)) (drop (i + 1) from) ≡ lay row (at + i) (drop i from)
-lay-next row from at i h l =
-    let on : at + (i + 1) ≡ at + i + 1 = omega arith in
-    ap (λ (k : ℕ). lay (set row (at + i) (get_or from i 0)) k (drop (i + 1) from)) on ∙ lay-copied row from (at + i) i 0 h l
+-- a part that is written over whole
+pub laid_mid : (row part xs : List ℕ) (at many : ℕ) → part ≡ xs → many ≡ length xs → put_mid at many row part ≡ lay row at xs
+unfolding lay
+laid_mid row part xs at many e p =
+    ap (λ (l : List ℕ). take at row ++ l) (ap₂ (λ (l r : List ℕ). l ++ r) e (drop-drop many at row ∙ ap (λ (n : ℕ). drop (at + n) row) p))
 
 -- one piece behind another
 pub lay-then : (row first last : List ℕ) (at end : ℕ) (xs ys zs : List ℕ) → at ≤ length row → first ≡ lay row at xs → end ≡ at + length xs → last ≡ lay first end ys → zs ≡ xs ++ ys → last ≡ lay row at zs
 lay-then row first last at end xs ys zs h f e l z =
     l ∙ ap₂ (λ (r : List ℕ) (n : ℕ). lay r n ys) f e ∙ lay-append row at xs ys h ∙ ap (lay row at) (sym z)
+
+-- and the row is as long as it was
+pub laid_long : (row after xs : List ℕ) (at : ℕ) → after ≡ lay row at xs → at + length xs ≤ length row → length after ≡ length row
+laid_long row after xs at e h = ap (λ (l : List ℕ). length l) e ∙ lay-length row at xs h
 
 -- what is laid from the start is the front of the row
 pub laid_front : (row laid : List ℕ) (end : ℕ) (xs : List ℕ) → end ≡ length xs → laid ≡ lay row 0 xs → take end laid ≡ xs
@@ -39,20 +46,23 @@ unfolding digits
 digits-enough zero n h = rw (lt-ltb n 10 (omega arith))
 digits-enough (suc f) n h = ap (λ (l : List ℕ). cond (ltb n 10) ((48 + n) ∷ []) (l ++ ((48 + n % 10) ∷ []))) (digits-enough f (n / 10) (omega (arith, pow-suc 10 f)))
 
-pub decimal-one : (n : ℕ) → n < 10 → decimal n ≡ (48 + n % 10) ∷ []
+decimal-one : (n : ℕ) → n < 10 → decimal n ≡ (48 + n) ∷ []
 unfolding decimal digits
-decimal-one n h = let same : n ≡ n % 10 = omega arith in rw (lt-ltb n 10 h) (ap (λ (k : ℕ). (48 + k) ∷ []) same)
+decimal-one n h = rw (lt-ltb n 10 h)
 
 digits_more : (f n : ℕ) → 10 ≤ n → digits (suc f) n ≡ digits f (n / 10) ++ ((48 + n % 10) ∷ [])
 unfolding digits
 digits_more f n h = rw (le-ltb n 10 h)
 
-pub decimal-more : (n : ℕ) → 10 ≤ n → n < 2 ^ 32 → decimal n ≡ decimal (n / 10) ++ ((48 + n % 10) ∷ [])
+decimal-more : (n : ℕ) → 10 ≤ n → n < 2 ^ 32 → decimal n ≡ decimal (n / 10) ++ ((48 + n % 10) ∷ [])
 unfolding decimal
 decimal-more n h l = digits_more 8 n h ∙ ap (λ (l : List ℕ). l ++ ((48 + n % 10) ∷ [])) (sym (digits-enough 8 (n / 10) (omega arith)))
 
-pub decimal_longer : (n : ℕ) → 10 ≤ n → n < 2 ^ 32 → length (decimal n) ≡ length (decimal (n / 10)) + 1
-decimal_longer n h l = ap (λ (d : List ℕ). length d) (decimal-more n h l) ∙ length-append (decimal (n / 10)) ((48 + n % 10) ∷ [])
+-- what the library prints of a number
+pub decimal_is : (n : ℕ) → n < 2 ^ 32 → printed n ≡ decimal n
+decimal_is n h =
+    decimal_by_steps (λ n ds. n < 2 ^ 32 → ds ≡ decimal n) (λ n one l. sym (decimal-one n one))
+    (λ n ds ten is l. ap (λ (d : List ℕ). d ++ ((48 + n % 10) ∷ [])) (is (omega arith)) ∙ sym (decimal-more n ten l)) n (omega arith) h
 
 digits-few : (f n : ℕ) → length (digits f n) ≤ suc f
 unfolding digits
@@ -86,6 +96,9 @@ lines-few (m ∷ ms) = omega (arith, length-append (line [] m) (lines ms), line-
 pub lines_from : (ms : List ℕ) (i : ℕ) → i < length ms → lines (drop i ms) ≡ line [] (get_or ms i 0) ++ lines (drop (i + 1) ms)
 unfolding lines
 lines_from ms i h = ap lines (drop-cons ms i 0 h) ∙ ap (λ (k : ℕ). line [] (get_or ms i 0) ++ lines (drop k ms)) (sym (add-one i))
+
+pub lines_long : (ms : List ℕ) (i : ℕ) → i < length ms → length (lines (drop i ms)) ≡ length (line [] (get_or ms i 0)) + length (lines (drop (i + 1) ms))
+lines_long ms i h = ap (λ (k : List ℕ). length k) (lines_from ms i h) ∙ length-append (line [] (get_or ms i 0)) (lines (drop (i + 1) ms))
 
 pub lines_done : (ms : List ℕ) (i : ℕ) → length ms ≤ i → lines (drop i ms) ≡ []
 unfolding lines

@@ -9,10 +9,9 @@ use native.Mathlib.Omega.{arith}
 use lib.ListN.{length}
 use Rattle.model.specs.Lists.{top, lists_from}
 use Rattle.model.specs.Expression.{Tree}
-use Rattle.model.specs.Steps.{Found, seek as seek_tree}
-use Rattle.reader.specs.declared.Readers.{Readers}
+use Rattle.model.specs.Steps.{Readers, Found, seek as seek_tree}
 use Rattle.reader.specs.Rows.{Stands, StandingEach}
-use Rattle.reader.specs.Sought.{readers_of, found, Tallied}
+use Rattle.reader.specs.Sought.{found}
 use Rattle.reader.proofs.Members.{Comes}
 use Rattle.seeks.proofs.Turns.{holding, holding-turn, going}
 use Rattle.seeks.proofs.Nodes.{uniting, following}
@@ -21,12 +20,12 @@ use Rattle.seeks.proofs.Stepping.{Holds}
 -- the increment of a difference goes on from here as from where it began
 abbrev pub Increments : (numbers ends nodes : List ℕ) → ℕ → Readers → ℕ → ℕ → Readers → ℕ → ℕ → Type 0
 Increments numbers ends nodes node readers₀ x₀ y₀ readers x y =
-    Holds numbers ends nodes node x₀ (λ u. holding (seek_tree (lists_from numbers 0 ends) u node) x₀ y₀ (readers_of readers₀)) x y readers
+    Holds numbers ends nodes node x₀ (λ u. holding (seek_tree (lists_from numbers 0 ends) u node) x₀ y₀ readers₀) x y readers
 
 -- the seek of any tree that stands at the node, from here, is what it was from the start
 abbrev pub Same : (numbers ends nodes : List ℕ) → ℕ → ℕ → Readers → ℕ → Readers → Type 0
 Same numbers ends nodes node from start to here =
-    (u : Tree) → Stands (length ends) nodes u node → seek_tree (lists_from numbers 0 ends) u node to (readers_of here) ≡ seek_tree (lists_from numbers 0 ends) u node from (readers_of start)
+    (u : Tree) → Stands (length ends) nodes u node → seek_tree (lists_from numbers 0 ends) u node to here ≡ seek_tree (lists_from numbers 0 ends) u node from start
 
 -- an intersection begins at its first member node; or is within the others, and goes on from what those that are left come to; or
 -- has ended
@@ -39,26 +38,29 @@ pub record Within (numbers ends nodes : List ℕ) (node from first : ℕ) (start
   pub behind_first : first < at
   pub low : candidate < top
   pub stand : StandingEach (length ends) nodes at left
-  pub same : (f : Found) → Comes (length ends) nodes (following (lists_from numbers 0 ends) candidate) at left (readers_of here) f
+  pub same : (f : Found) → Comes (length ends) nodes (following (lists_from numbers 0 ends) candidate) at left here f
       → (u : Tree) → Stands (length ends) nodes u node
-      → going (seek_tree (lists_from numbers 0 ends) u node) candidate f ≡ seek_tree (lists_from numbers 0 ends) u node from (readers_of start)
+      → going (seek_tree (lists_from numbers 0 ends) u node) candidate f ≡ seek_tree (lists_from numbers 0 ends) u node from start
 
 pub record Ended (numbers ends nodes : List ℕ) (node from : ℕ) (start : Readers) (candidate left : ℕ) (here : Readers) : Type 0 where
   pub none_left : left ≡ 0
-  pub same : (u : Tree) → Stands (length ends) nodes u node → found candidate (readers_of here) ≡ seek_tree (lists_from numbers 0 ends) u node from (readers_of start)
+  pub same : (u : Tree) → Stands (length ends) nodes u node → found candidate here ≡ seek_tree (lists_from numbers 0 ends) u node from start
 
-abbrev pub Intersects : (numbers ends nodes : List ℕ) (node count from first : ℕ) (start here : Readers) (candidate at left : ℕ) → Type 0
-Intersects numbers ends nodes node count from first start here candidate at left =
-    (from ≤ candidate) × (candidate ≤ top) × Tallied here
-    × (Begins numbers ends nodes node count from first start candidate at left here
-    ⊎ (Within numbers ends nodes node from first start candidate at left here
-    ⊎ Ended numbers ends nodes node from start candidate left here))
+pub record Intersects (numbers ends nodes : List ℕ) (node count from first : ℕ) (start here : Readers) (candidate at left : ℕ) : Type 0 where
+  pub above : from ≤ candidate
+  pub low : candidate ≤ top
+  pub stage : Begins numbers ends nodes node count from first start candidate at left here
+      ⊎ (Within numbers ends nodes node from first start candidate at left here
+      ⊎ Ended numbers ends nodes node from start candidate left here)
 
-abbrev pub Unites : (numbers ends nodes : List ℕ) (node to : ℕ) (start here : Readers) (least at left : ℕ) → Type 0
-Unites numbers ends nodes node to start here least at left =
-    (node < at) × (to ≤ least) × (least ≤ top) × Tallied here × StandingEach (length ends) nodes at left
-    × ((f : Found) → Comes (length ends) nodes (uniting (lists_from numbers 0 ends) to) at left (least, readers_of here) f
-    → (u : Tree) → Stands (length ends) nodes u node → f ≡ seek_tree (lists_from numbers 0 ends) u node to (readers_of start))
+-- a union has the least answer so far, and goes on from what those that are left come to
+pub record Unites (numbers ends nodes : List ℕ) (node to : ℕ) (start here : Readers) (least at left : ℕ) : Type 0 where
+  pub behind_node : node < at
+  pub above : to ≤ least
+  pub low : least ≤ top
+  pub stand : StandingEach (length ends) nodes at left
+  pub same : (f : Found) → Comes (length ends) nodes (uniting (lists_from numbers 0 ends) to) at left (least, here) f
+      → (u : Tree) → Stands (length ends) nodes u node → f ≡ seek_tree (lists_from numbers 0 ends) u node to start
 
 -- a difference's first answer, past which the first is sought next, is a number
 pub next_low : {numbers ends nodes : List ℕ} {node e : ℕ} {f : Tree → Found} {x y : ℕ} {after : Readers} → Holds numbers ends nodes node e f x y after → y ≡ x → x + 1 ≤ top
@@ -66,12 +68,11 @@ next_low h same = let low = h.not_finished same in omega (arith, low)
 
 -- where both answers are equal, a difference goes on from the next two as from these
 pub increments : (numbers ends nodes : List ℕ) (node : ℕ) (readers₀ : Readers) (x₀ y₀ : ℕ) (readers : Readers) (x y : ℕ) → Increments numbers ends nodes node readers₀ x₀ y₀ readers x y → y ≡ x
-    → (next y' : ℕ) (last : Readers) → Holds numbers ends nodes node (x + 1) (λ u. seek_tree (lists_from numbers 0 ends) u node (x + 1) (readers_of readers)) next y' last
+    → (next y' : ℕ) (last : Readers) → Holds numbers ends nodes node (x + 1) (λ u. seek_tree (lists_from numbers 0 ends) u node (x + 1) readers) next y' last
     → Increments numbers ends nodes node readers₀ x₀ y₀ last next y'
 increments numbers ends nodes node readers₀ x₀ y₀ readers x y inv same next y' last h = record {
   above = omega (arith, inv.above, h.above);
   low = h.low;
   not_finished = h.not_finished;
-  tallied = h.tallied;
   goes_on = λ u s. h.goes_on u s ∙ sym (holding-turn _ _ _ _ same) ∙ inv.goes_on u s;
 }

@@ -3,7 +3,7 @@ use Rattle.std.specs.Prelude.{◌≡◌, List, ℕ, length}
 use Rattle.model.specs.Lists.{lists_from}
 use Rattle.model.specs.Expression.{Tree}
 use Rattle.model.specs.Steps.{seek}
-use Rattle.reader.specs.declared.Readers.{Readers}
+use Rattle.reader.specs.declared.readers.Readers.{Readers}
 use Rattle.reader.specs.declared.SeekResult.{SeekResult}
 use Rattle.reader.specs.Rows.{Stands}
 use Rattle.reader.specs.Sought.{readers_of, found_of}

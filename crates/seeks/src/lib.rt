@@ -9,33 +9,22 @@ ghost use Rattle.model.specs.declared.Node.TheVariants.{Difference, Union, Inter
 ghost use Rattle.model.specs.Outcome.{accepted};
 ghost use Rattle.model.specs.Lists.{top};
 ghost use Rattle.model.specs.Forms.{node_of};
-ghost use Rattle.reader.specs.Rows.{Standing, Ready};
-ghost use Rattle.reader.specs.Sought.{Tallied, Sound};
+ghost use Rattle.reader.specs.Rows.{Standing};
+ghost use Rattle.reader.specs.Sought.{Sound};
 ghost use Rattle.seeks.specs.Finding.{Finds};
 
-use expression::Kind;
 use model::Node;
-use reader::{MemberRead, Readers, SeekResult};
+use reader::{Generator, MemberRead, Readers, SeekResult};
 
 // The seek of a node, by its kind. Each arm returns at once: what it hands back is then copied only once.
 #[cycle(seeks)]
-pub fn seek(
-    numbers: &[u32],
-    ends: &[u32],
-    nodes: &[u8; 48],
-    behind: &[usize; 48],
-    node: usize,
-    start: Readers,
-    to: u64,
-) -> SeekResult
-    requires ready { Ready numbers.now ends.now nodes.now behind.now }
-    requires standing { Standing (length ends.now) nodes.now node }
-    requires to_le_top { (to ≤ top) × Tallied start }
+pub fn seek(generator: &Generator, node: usize, start: Readers, to: u64) -> SeekResult
+    requires standing { Standing (length generator.now.ends.now) generator.now.nodes.now node }
+    requires to_le_top { to ≤ top }
     ensures sound { Sound to result }
-    ensures finds { Finds numbers.now ends.now nodes.now node to start result }
+    ensures finds { Finds generator.now.numbers.now generator.now.ends.now generator.now.nodes.now node to start result }
 {
-    let kind = expression::node_of(nodes[node]);
-    let Kind::Known(known) = kind else {
+    let Ok(known) = expression::node_of(generator.nodes[node]) else {
         // never: a tree stands at the node
         return SeekResult {
             readers: start,
@@ -46,57 +35,38 @@ pub fn seek(
         Node::Leaf(k) => {
             let mut readers = start;
             let place = readers.places[node];
-            let r = reader::read_list(numbers, ends, expression::wide(k), place, to);
-            readers.places[node] = r.place;
-            readers.moves += r.moves;
-            return SeekResult {
-                readers,
-                answer: r.answer,
-            };
+            let list = k as usize;
+            let r = reader::read_list(generator.numbers, generator.ends, list, place, to);
+            let answer = readers.take(node, r);
+            return SeekResult { readers, answer };
         }
-        Node::Difference => return seek_difference(numbers, ends, nodes, behind, node, start, to),
-        Node::Union(n) => return seek_union(numbers, ends, nodes, behind, node, n, start, to),
-        Node::Intersection(n) => return seek_intersection(
-            numbers, ends, nodes, behind, node, n, start, to,
-        ),
+        Node::Difference => return seek_difference(generator, node, start, to),
+        Node::Union(n) => return seek_union(generator, node, n, start, to),
+        Node::Intersection(n) => return seek_intersection(generator, node, n, start, to),
     }
 }
 
 // "seek the first to E; finished ends it. Seek the second to that answer. If equal, E becomes the answer plus 1 and the step
 // repeats; else the first's answer holds": in the report's order, A3(2)(a), A3(2)(b) and the increment of A2(2).
 #[cycle(seeks)]
-fn seek_difference(
-    numbers: &[u32],
-    ends: &[u32],
-    nodes: &[u8; 48],
-    behind: &[usize; 48],
-    node: usize,
-    start: Readers,
-    from: u64,
-) -> SeekResult
-    requires ready { Ready numbers.now ends.now nodes.now behind.now }
-    requires standing { Standing (length ends.now) nodes.now node }
-    requires node_value { node_of (get_or nodes.now node 0) ≡ accepted Difference }
-    requires from_le_top { (from ≤ top) × Tallied start }
+fn seek_difference(generator: &Generator, node: usize, start: Readers, from: u64) -> SeekResult
+    requires standing { Standing (length generator.now.ends.now) generator.now.nodes.now node }
+    requires node_value { node_of (get_or generator.now.nodes.now node 0) ≡ accepted Difference }
+    requires from_le_top { from ≤ top }
     ensures sound { Sound from result }
-    ensures finds { Finds numbers.now ends.now nodes.now node from start result }
+    ensures finds { Finds generator.now.numbers.now generator.now.ends.now generator.now.nodes.now node from start result }
 {
     let first = node + 1;
-    let second = behind[first];
+    let second = generator.behind[first];
     let mut readers = start;
 
     // One, A3(2)(a), "Increment the first LSG (to or) past D": the first is sought to E, which is `from`, and answers x.
-    let place = readers.places[first];
-    let member = reader::read_member(numbers, ends, nodes[first], place, from);
+    let member = generator.read_member(first, &readers, from);
     let mut x = match member {
         MemberRead::Still(answer) => answer,
-        MemberRead::Moved(r) => {
-            readers.places[first] = r.place;
-            readers.moves += r.moves;
-            r.answer
-        }
+        MemberRead::Moved(r) => readers.take(first, r),
         MemberRead::Operator => {
-            let s = seek(numbers, ends, nodes, behind, first, readers, from);
+            let s = seek(generator, first, readers, from);
             readers = s.readers;
             s.answer
         }
@@ -107,17 +77,12 @@ fn seek_difference(
     // is not asked, and y stays below x.
     let mut y = 0;
     if x != reader::FINISHED {
-        let place = readers.places[second];
-        let member = reader::read_member(numbers, ends, nodes[second], place, x);
+        let member = generator.read_member(second, &readers, x);
         y = match member {
             MemberRead::Still(answer) => answer,
-            MemberRead::Moved(r) => {
-                readers.places[second] = r.place;
-                readers.moves += r.moves;
-                r.answer
-            }
+            MemberRead::Moved(r) => readers.take(second, r),
             MemberRead::Operator => {
-                let s = seek(numbers, ends, nodes, behind, second, readers, x);
+                let s = seek(generator, second, readers, x);
                 readers = s.readers;
                 s.answer
             }
@@ -129,17 +94,12 @@ fn seek_difference(
     while y == x {
         // A2(2)(a), "Increment the first LSG": it is sought past its answer.
         let past = x + 1;
-        let place = readers.places[first];
-        let member = reader::read_member(numbers, ends, nodes[first], place, past);
+        let member = generator.read_member(first, &readers, past);
         let next = match member {
             MemberRead::Still(answer) => answer,
-            MemberRead::Moved(r) => {
-                readers.places[first] = r.place;
-                readers.moves += r.moves;
-                r.answer
-            }
+            MemberRead::Moved(r) => readers.take(first, r),
             MemberRead::Operator => {
-                let s = seek(numbers, ends, nodes, behind, first, readers, past);
+                let s = seek(generator, first, readers, past);
                 readers = s.readers;
                 s.answer
             }
@@ -148,17 +108,12 @@ fn seek_difference(
         // A2(2)(b), "Check the current datum of the first LSG against the second LSG. If the check fails, the increment is done. If
         // the check succeeds, go back to step (a)": sought, as in two; where the first has finished, y stays below next.
         if next != reader::FINISHED {
-            let place = readers.places[second];
-            let member = reader::read_member(numbers, ends, nodes[second], place, next);
+            let member = generator.read_member(second, &readers, next);
             y = match member {
                 MemberRead::Still(answer) => answer,
-                MemberRead::Moved(r) => {
-                    readers.places[second] = r.place;
-                    readers.moves += r.moves;
-                    r.answer
-                }
+                MemberRead::Moved(r) => readers.take(second, r),
                 MemberRead::Operator => {
-                    let s = seek(numbers, ends, nodes, behind, second, readers, next);
+                    let s = seek(generator, second, readers, next);
                     readers = s.readers;
                     s.answer
                 }
@@ -171,39 +126,23 @@ fn seek_difference(
 
 // "seek every member node to E, in order. The least answer holds; finished if all are": finished is above every number.
 #[cycle(seeks)]
-fn seek_union(
-    numbers: &[u32],
-    ends: &[u32],
-    nodes: &[u8; 48],
-    behind: &[usize; 48],
-    node: usize,
-    count: u8,
-    start: Readers,
-    to: u64,
-) -> SeekResult
-    requires ready { Ready numbers.now ends.now nodes.now behind.now }
-    requires standing { Standing (length ends.now) nodes.now node }
-    requires node_value { node_of (get_or nodes.now node 0) ≡ accepted (Union count) }
-    requires to_le_top { (to ≤ top) × Tallied start }
+fn seek_union(generator: &Generator, node: usize, count: u8, start: Readers, to: u64) -> SeekResult
+    requires standing { Standing (length generator.now.ends.now) generator.now.nodes.now node }
+    requires node_value { node_of (get_or generator.now.nodes.now node 0) ≡ accepted (Union count) }
+    requires to_le_top { to ≤ top }
     ensures sound { Sound to result }
-    ensures finds { Finds numbers.now ends.now nodes.now node to start result }
+    ensures finds { Finds generator.now.numbers.now generator.now.ends.now generator.now.nodes.now node to start result }
 {
     let mut readers = start;
     let mut least = reader::FINISHED;
     let mut at = node + 1;
-    let mut left = count;
-    while 0 < left {
-        let place = readers.places[at];
-        let member = reader::read_member(numbers, ends, nodes[at], place, to);
+    for _ in 0..count {
+        let member = generator.read_member(at, &readers, to);
         let x = match member {
             MemberRead::Still(answer) => answer,
-            MemberRead::Moved(r) => {
-                readers.places[at] = r.place;
-                readers.moves += r.moves;
-                r.answer
-            }
+            MemberRead::Moved(r) => readers.take(at, r),
             MemberRead::Operator => {
-                let s = seek(numbers, ends, nodes, behind, at, readers, to);
+                let s = seek(generator, at, readers, to);
                 readers = s.readers;
                 s.answer
             }
@@ -211,8 +150,7 @@ fn seek_union(
         if x < least {
             least = x;
         }
-        at = behind[at];
-        left -= 1;
+        at = generator.behind[at];
     }
     SeekResult {
         readers,
@@ -231,39 +169,31 @@ fn begins_again(candidate: u64, x: u64, first: usize, at: usize) -> bool
 // candidate, that is the answer".
 #[cycle(seeks)]
 fn seek_intersection(
-    numbers: &[u32],
-    ends: &[u32],
-    nodes: &[u8; 48],
-    behind: &[usize; 48],
+    generator: &Generator,
     node: usize,
     count: u8,
     start: Readers,
     from: u64,
 ) -> SeekResult
-    requires ready { Ready numbers.now ends.now nodes.now behind.now }
-    requires standing { Standing (length ends.now) nodes.now node }
-    requires node_value { node_of (get_or nodes.now node 0) ≡ accepted (Intersection count) }
-    requires from_le_top { (from ≤ top) × Tallied start }
+    requires standing { Standing (length generator.now.ends.now) generator.now.nodes.now node }
+    requires node_value { node_of (get_or generator.now.nodes.now node 0) ≡ accepted (Intersection count) }
+    requires from_le_top { from ≤ top }
     ensures sound { Sound from result }
-    ensures finds { Finds numbers.now ends.now nodes.now node from start result }
+    ensures finds { Finds generator.now.numbers.now generator.now.ends.now generator.now.nodes.now node from start result }
 {
     let first = node + 1;
     let mut readers = start;
     let mut candidate = from;
     let mut at = first;
     let mut left = count;
+    // no `for`: it begins again, and then all are left
     while 0 < left {
-        let place = readers.places[at];
-        let member = reader::read_member(numbers, ends, nodes[at], place, candidate);
+        let member = generator.read_member(at, &readers, candidate);
         let x = match member {
             MemberRead::Still(answer) => answer,
-            MemberRead::Moved(r) => {
-                readers.places[at] = r.place;
-                readers.moves += r.moves;
-                r.answer
-            }
+            MemberRead::Moved(r) => readers.take(at, r),
             MemberRead::Operator => {
-                let s = seek(numbers, ends, nodes, behind, at, readers, candidate);
+                let s = seek(generator, at, readers, candidate);
                 readers = s.readers;
                 s.answer
             }
@@ -274,7 +204,7 @@ fn seek_intersection(
             at = first;
             left = count;
         } else {
-            at = behind[at];
+            at = generator.behind[at];
             left -= 1;
         }
         candidate = x;

@@ -1,5 +1,5 @@
 -- Where a number stands or belongs in an ascending row: behind every number below it. Assumes nothing.
-use mathlib.Core.Path.{◌≡◌, refl, sym}
+use mathlib.Core.Path.{◌≡◌, refl, sym, ap, ◌∙◌}
 use mathlib.Core.Bool.{Bool, true, false, ◌||◌}
 use mathlib.Core.List.{List, [], ◌∷◌}
 use Prim.Native.Nat.{ℕ, zero, suc, ◌≤◌, ◌<◌}
@@ -7,9 +7,14 @@ use native.Mathlib.Omega.{arith}
 use lib.Dec.{ltb, eqb}
 use borrow.Author.Tests.{lt-ltb, le-ltb, ltb-true, ne_eqb, eq-eqb, eqb-true}
 use lib.ListN.{length, get_or}
+use Rattle.std.specs.Prelude.{Result, Ok, Err, is_ok}
+use Rattle.std.specs.Ordering.{nat_cmp}
+use Rattle.std.specs.List.Sorted.{IsBinarySearchResult}
+use Rattle.std.proofs.lemmas.List.Sorted.{searched}
 use Rattle.model.specs.Lists.{rises, ascending}
 use Rattle.model.specs.Sets.{among}
 use Rattle.model.specs.Steps.{passed}
+use Rattle.shifts.specs.Shift.{place_of}
 use Rattle.model.proofs.Order.{split, and_true, not_both}
 
 -- each number stands above the one before it, the first at lo or above
@@ -88,3 +93,37 @@ there lo (y ∷ ys) x u h =
 
 pub stands-there : (l : List ℕ) (x : ℕ) → ascending l ≡ true → passed l x < length l → eqb (get_or l (passed l x) 0) x ≡ among x l
 stands-there l x up h = there 0 l x (above l up) h
+
+-- ---- what the library's search hands back
+
+rises_to : (lo : ℕ) (l : List ℕ) (i j : ℕ) → Above lo l → i < j → j < length l → get_or l i 0 < get_or l j 0
+rises_to lo [] i j u h k = absurd (omega arith)
+rises_to lo (y ∷ ys) i zero u h k = absurd (omega arith)
+rises_to lo (y ∷ ys) zero (suc j) u h k = above_at (suc y) ys j u.1 (omega arith)
+rises_to lo (y ∷ ys) (suc i) (suc j) u h k = rises_to (suc y) ys i j u.1 (omega arith) (omega arith)
+
+module _ (l : List ℕ) (x : ℕ) (up : ascending l ≡ true) where
+  never_falls : (i j : ℕ) → i ≤ j → j < length l → get_or l i 0 ≤ get_or l j 0
+  never_falls i j h k =
+      split _ i j (λ lt. omega (arith, rises_to 0 l i j (above l up) lt k))
+      (λ ge. let same : i ≡ j = omega arith in omega (arith, ap (λ (n : ℕ). get_or l n 0) same))
+
+  -- the place that every number below x stands before, and no other
+  place : (i : ℕ) → i ≤ length l → ((k : ℕ) → k < i → get_or l k 0 < x) → (i < length l → x ≤ get_or l i 0) → i ≡ passed l x
+  place i inside below here =
+      let above : passed l x ≤ i = split _ i (length l) (λ lt. passed-above l x i lt (here lt)) (λ ge. omega (arith, passed-inside l x)) in
+      omega (arith, reaches i inside below)
+    where
+      reaches : (i : ℕ) → i ≤ length l → ((k : ℕ) → k < i → get_or l k 0 < x) → i ≤ passed l x
+      reaches zero inside below = omega arith
+      reaches (suc k) inside below = passed-below l x k up (omega arith) (below k (omega arith))
+
+  pub search_places : (r : Result ℕ ℕ) → IsBinarySearchResult (λ y. nat_cmp y x) l r → (place_of r ≡ passed l x) × (is_ok r ≡ among x l)
+  search_places (Ok i) h =
+      let at = searched l x (Ok i) h never_falls in
+      let is : i ≡ passed l x = place i (omega (arith, at.0)) (λ k lt. omega (arith, at.1, rises_to 0 l k i (above l up) lt at.0)) (λ lt. omega (arith, at.1)) in
+      (is, sym (eq-eqb _ x at.1) ∙ ap (λ (n : ℕ). eqb (get_or l n 0) x) is ∙ stands-there l x up (omega (arith, is, at.0)))
+  search_places (Err i) h =
+      let at = searched l x (Err i) h never_falls in
+      let is : i ≡ passed l x = place i at.0 at.1 (λ lt. omega (arith, at.2 i (omega arith) lt)) in
+      (is, sym (split _ i (length l) (λ lt. sym (stands-there l x up (omega arith)) ∙ ap (λ (n : ℕ). eqb (get_or l n 0) x) (sym is) ∙ ne_eqb _ x (λ e. omega (arith, at.2 i (omega arith) lt))) (λ ge. stands_not l x up (omega arith))))

@@ -1,8 +1,13 @@
--- A row of which the first places are used, with a number put in or taken out; ends that move with it.
-use Rattle.std.specs.Prelude.{Bool, true, false, List, ◌∷◌, ◌++◌, map, ℕ, suc, ◌+◌, ◌≤◌, ◌<◌, length, get_or, take, drop}
+-- A number's place; a row of which the first places are used, with a number put in or taken out; ends that move with it.
+use Rattle.std.specs.Prelude.{Bool, true, false, Result, Ok, Err, List, ◌∷◌, ◌++◌, map, ℕ, suc, ◌+◌, ◌≤◌, ◌<◌, length, get_or, take, drop}
 use Rattle.model.specs.Lists.{top}
 use Rattle.model.specs.RequestOne.{moved}
 use Rattle.fields.specs.Rows.{lay}
+
+-- where a number stands, or else where it belongs
+abbrev pub place_of : Result ℕ ℕ → ℕ
+place_of (Ok at) = at
+place_of (Err at) = at
 
 -- a number may be put in at the place `at` where a row of so many places is used up to `used` and has one more; or be taken
 -- out there

@@ -2,59 +2,19 @@
 // moved by one place.
 #![tactic(auto)]
 
-ghost use Rattle.std.specs.Prelude.{◌≡◌, true, false, ℕ, length};
+ghost use Rattle.std.specs.Prelude.{◌≡◌, true, false, ℕ, length, is_ok};
 ghost use Rattle.model.specs.Lists.{ascending};
 ghost use Rattle.model.specs.Sets.{among};
 ghost use Rattle.model.specs.Steps.{passed};
 ghost use Rattle.model.specs.RequestOne.{moved};
-ghost use Rattle.shifts.specs.Shift.{Shifts, shifted, CanMove, Movable, ends_moved};
+ghost use Rattle.shifts.specs.Shift.{place_of, Shifts, shifted, CanMove, Movable, ends_moved};
 
-// Where a number stands in a row, or belongs, and whether it stands there.
-#[derive(Drop)]
-pub struct Found {
-    pub place: usize,
-    pub there: bool,
-}
-
-// How many numbers of an ascending row are below x: where x stands, or belongs.
-fn place_of(row: &[u32], x: u32) -> usize
+// Finds x in an ascending row: the place where it stands, or else where it belongs.
+pub fn find(row: &[u32], x: u32) -> Result<usize, usize>
     requires { ascending row.now ≡ true }
-    ensures { result ≡ passed row.now x }
+    ensures { (place_of result ≡ passed row.now x) × (is_ok result ≡ among x row.now) }
 {
-    let mut low: usize = 0;
-    let mut high = row.len();
-    while low < high {
-        let middle = low + (high - low) / 2;
-        if row[middle] < x {
-            low = middle + 1;
-        } else {
-            high = middle;
-        }
-    }
-    low
-}
-
-// Whether x stands in an ascending row, by the number where it belongs.
-fn stands(row: &[u32], place: usize, x: u32) -> bool
-    requires { (ascending row.now ≡ true) × (place ≡ passed row.now x) }
-    ensures { result ≡ among x row.now }
-{
-    if row.len() <= place {
-        return false;
-    }
-    row[place] == x
-}
-
-// Finds x in an ascending row.
-pub fn find(row: &[u32], x: u32) -> Found
-    requires { ascending row.now ≡ true }
-    ensures { (result.place ≡ passed row.now x) × (result.there ≡ among x row.now) }
-{
-    let place = place_of(row, x);
-    Found {
-        place,
-        there: stands(row, place, x),
-    }
+    row.binary_search(&x)
 }
 
 // Puts x in at a place: what stands from there on, as far as the row is used, moves up by one.
@@ -62,11 +22,7 @@ fn put_in(row: &mut [u32], at: usize, used: usize, x: u32)
     requires { Shifts true at used (length row.old) }
     ensures { row.new ≡ shifted true row.old at used x }
 {
-    let mut i = used;
-    while at < i {
-        row[i] = row[i - 1];
-        i -= 1;
-    }
+    row.copy_within(at..used, at + 1);
     row[at] = x;
 }
 
@@ -75,11 +31,7 @@ fn take_out(row: &mut [u32], at: usize, used: usize)
     requires { Shifts false at used (length row.old) }
     ensures { (x : ℕ) → row.new ≡ shifted false row.old at used x }
 {
-    let mut i = at;
-    while i + 1 < used {
-        row[i] = row[i + 1];
-        i += 1;
-    }
+    row.copy_within(at + 1..used, at);
 }
 
 // Puts x in at a place, or takes out what stands there.
@@ -107,9 +59,8 @@ pub fn move_ends(ends: &mut [u32], list: usize, adds: bool)
     requires { Movable adds list ends.old }
     ensures { ends.new ≡ ends_moved adds list ends.old }
 {
-    let mut k = list;
-    while k < ends.len() {
+    // by index: `iter_mut().skip(list)` leaves nothing known of the ends, and `ends[list..]` asks for a list that is there
+    for k in list..ends.len() {
         ends[k] = by_one(ends[k], adds);
-        k += 1;
     }
 }

@@ -4,207 +4,228 @@
 #![tactic(auto)]
 
 mod bits;
-mod delivery;
+mod reading;
 
 use bits::{bytes, fill, put_field, width_of};
-use delivery::{Lists, is_delivered, part};
+use reading::Lists;
 
-// Above every number.
-const TOP: u64 = 4294967296;
-
-// The number of a refusal or 0, and how many bytes were written (0 with a refusal).
-#[derive(Drop)]
-pub struct Outcome {
-    pub number: u32,
-    pub count: usize,
+// What is refused, by its number: 1 wherever bits run out; 7; for each list 8 at the gap and 9 after its gaps; 5; 6 where numbers
+// pass their row. Of two deliveries that were read: 20, 21, then 6 where bytes pass theirs.
+#[derive(Clone, Copy, Debug, PartialEq, Eq)]
+pub enum Refusal {
+    BitsRunOut = 1,
+    BadFill = 5,
+    NoRoom = 6,
+    BadListCount = 7,
+    NumberTooGreat = 8,
+    WidthTooGreat = 9,
+    ListCountsDiffer = 20,
+    ListTooLong = 21,
 }
 
-// What a joined list comes to: how many numbers it has, the first of them, and the largest gap minus 1.
+// A delivery that was read: its numbers, and how they lie in lists.
 #[derive(Clone, Copy)]
+struct Delivery<'a> {
+    numbers: &'a [u32],
+    lists: Lists,
+}
+
+impl<'a> Delivery<'a> {
+    // The numbers of list k, none where it did not come.
+    fn part(&self, k: usize) -> &'a [u32] {
+        self.lists.part(self.numbers, k)
+    }
+}
+
+// The least number of an ascending row that is not below the floor.
+fn least(row: &[u32], floor: u64) -> Option<u32> {
+    let place = row.partition_point(|&x| u64::from(x) < floor);
+    row.get(place).copied()
+}
+
+// The union of two lists, drawn number by number: no number below the floor is left.
+#[derive(Clone, Copy)]
+struct Union<'a> {
+    full: &'a [u32],
+    daily: &'a [u32],
+    floor: u64,
+}
+
+impl Iterator for Union<'_> {
+    type Item = u32;
+
+    fn next(&mut self) -> Option<u32> {
+        let one = least(self.full, self.floor);
+        let other = least(self.daily, self.floor);
+        let x = match (one, other) {
+            (Some(a), Some(b)) => a.min(b),
+            _ => one.or(other)?,
+        };
+        self.floor = u64::from(x) + 1;
+        Some(x)
+    }
+}
+
+impl Union<'_> {
+    // At least as many numbers as it has.
+    fn most(&self) -> usize {
+        self.full.len().wrapping_add(self.daily.len())
+    }
+}
+
+// What a joined list comes to: how many numbers it has, the first and the last of them, and the largest gap minus 1.
+#[derive(Drop)]
 struct Extent {
     count: usize,
-    first: u64,
-    largest: u64,
+    first: u32,
+    last: u32,
+    largest: u32,
 }
 
-fn wide(x: u32) -> u64 {
-    x as u64
-}
+impl Extent {
+    fn of(union: Union) -> Extent {
+        let mut s = Extent {
+            count: 0,
+            first: 0,
+            last: 0,
+            largest: 0,
+        };
+        for x in union.take(union.most()) {
+            s.push(x);
+        }
+        s
+    }
 
-fn long(x: usize) -> u64 {
-    x as u64
-}
-
-fn above(x: u64) -> u64 {
-    std::num::wrapping_add_u64(x, 1)
-}
-
-// The number at a place, above every number behind the row.
-fn number_at(row: &[u32], i: usize) -> u64 {
-    if i < row.len() { wide(row[i]) } else { TOP }
-}
-
-// The least number of an ascending row that is not below the floor, 4294967296 if there is none. The places that it can have are
-// halved; 17 times are enough for 65,536 of them.
-fn least(row: &[u32], floor: u64) -> u64 {
-    let mut low: usize = 0;
-    let mut high = row.len();
-    for turn in 0..17usize {
-        let middle = std::num::wrapping_add_usize(low, high) / 2;
-        if low < high && number_at(row, middle) < floor {
-            low = std::num::wrapping_add_usize(middle, 1);
+    fn push(&mut self, x: u32) {
+        if self.count == 0 {
+            self.first = x;
         } else {
-            high = middle;
+            self.largest = gap(self.last, x).max(self.largest);
+        }
+        self.last = x;
+        self.count = self.count.wrapping_add(1);
+    }
+}
+
+// The gap from a number to the next, minus 1.
+fn gap(last: u32, x: u32) -> u32 {
+    x.wrapping_sub(last).wrapping_sub(1)
+}
+
+// A full delivery and a daily one, with as many lists.
+#[derive(Clone, Copy)]
+struct Pair<'a> {
+    full: Delivery<'a>,
+    daily: Delivery<'a>,
+}
+
+impl<'a> Pair<'a> {
+    fn count(&self) -> usize {
+        self.full.lists.count
+    }
+
+    // Both lists k.
+    fn union(&self, k: usize) -> Union<'a> {
+        Union {
+            full: self.full.part(k),
+            daily: self.daily.part(k),
+            floor: 0,
         }
     }
-    number_at(row, low)
-}
 
-// The least number of either row.
-fn least_of(a: &[u32], b: &[u32], floor: u64) -> u64 {
-    let one = least(a, floor);
-    let other = least(b, floor);
-    if one < other { one } else { other }
-}
+    // Whether a joined list is over 65,535.
+    fn is_long(&self) -> bool {
+        (0..self.count()).any(|k| 65535 < Extent::of(self.union(k)).count)
+    }
 
-// A list with one more number, the least that is not below the floor: so far behind the number before it, which the floor is one above.
-fn with_number(s: Extent, floor: u64, x: u64) -> Extent {
-    let gap = std::num::wrapping_sub_u64(x, floor);
-    let mut more = s;
-    more.count = std::num::wrapping_add_usize(s.count, 1);
-    if s.count == 0 {
-        more.first = x;
-        return more;
+    // Whether list k came in one or in both.
+    fn is_delivered(&self, k: usize) -> bool {
+        self.full.lists.is_delivered(k) || self.daily.lists.is_delivered(k)
     }
-    if s.largest < gap {
-        more.largest = gap;
-    }
-    more
-}
-
-fn measured(a: &[u32], b: &[u32]) -> Extent {
-    let mut s = Extent {
-        count: 0,
-        first: 0,
-        largest: 0,
-    };
-    let mut floor: u64 = 0;
-    for i in 0..std::num::wrapping_add_usize(a.len(), b.len()) {
-        let x = least_of(a, b, floor);
-        if TOP <= x {
-            return s;
-        }
-        s = with_number(s, floor, x);
-        floor = above(x);
-    }
-    s
-}
-
-// Whether a joined list is over 65,535.
-fn is_long(full: &[u32], f: Lists, daily: &[u32], d: Lists) -> bool {
-    for k in 0..f.count {
-        if 65535 < measured(part(full, f, k), part(daily, d, k)).count {
-            return true;
-        }
-    }
-    false
 }
 
 // The gaps behind the first number, each in a width; the position behind them.
-fn put_gaps(row: &mut [u8], at: usize, a: &[u32], b: &[u32], first: u64, width: usize) -> usize {
+fn put_gaps(row: &mut [u8], at: usize, union: Union, width: usize) -> usize {
+    let mut rest = union;
     let mut behind = at;
-    let mut floor = above(first);
-    for i in 0..std::num::wrapping_add_usize(a.len(), b.len()) {
-        let x = least_of(a, b, floor);
-        if TOP <= x {
-            return behind;
-        }
-        behind = put_field(row, behind, width, std::num::wrapping_sub_u64(x, floor));
-        floor = above(x);
+    let mut last = rest.next().unwrap_or(0);
+    for x in rest.take(rest.most()) {
+        behind = put_field(row, behind, width, gap(last, x) as usize);
+        last = x;
     }
     behind
 }
 
 // A delivered list behind its bit: its count, and what else it has by that.
-fn put_numbers(row: &mut [u8], at: usize, a: &[u32], b: &[u32]) -> usize {
-    let s = measured(a, b);
-    let counted = put_field(row, at, 16, long(s.count));
+fn put_numbers(row: &mut [u8], at: usize, union: Union) -> usize {
+    let s = Extent::of(union);
+    let counted = put_field(row, at, 16, s.count);
     if s.count == 0 {
         return counted;
     }
-    let begun = put_field(row, counted, 32, s.first);
+    let begun = put_field(row, counted, 32, s.first as usize);
     if s.count == 1 {
         return begun;
     }
     let width = width_of(s.largest);
-    let known = put_field(row, begun, 5, long(width - 1));
-    put_gaps(row, known, a, b, s.first, width)
+    let known = put_field(row, begun, 5, width - 1);
+    put_gaps(row, known, union, width)
 }
 
-// List k: delivered where it came in one or in both. A list that did not come has no number.
-fn put_list(
-    row: &mut [u8],
-    at: usize,
-    full: &[u32],
-    f: Lists,
-    daily: &[u32],
-    d: Lists,
-    k: usize,
-) -> usize {
-    if is_delivered(f, k) || is_delivered(d, k) {
+// List k: its bit, and what is behind it. A list that did not come has no number.
+fn put_list(row: &mut [u8], at: usize, pair: Pair, k: usize) -> usize {
+    if pair.is_delivered(k) {
         let behind = put_field(row, at, 1, 1);
-        return put_numbers(row, behind, part(full, f, k), part(daily, d, k));
+        return put_numbers(row, behind, pair.union(k));
     }
     put_field(row, at, 1, 0)
 }
 
 // The whole outcome with its fill, as far as the row goes; how many bits it has.
-fn put_all(row: &mut [u8], full: &[u32], f: Lists, daily: &[u32], d: Lists) -> usize {
-    let mut at = put_field(row, 0, 6, long(f.count));
-    for k in 0..f.count {
-        at = put_list(row, at, full, f, daily, d, k);
+fn put_all(row: &mut [u8], pair: Pair) -> usize {
+    let mut at = put_field(row, 0, 6, pair.count());
+    for k in 0..pair.count() {
+        at = put_list(row, at, pair, k);
     }
     put_field(row, at, fill(at), 0)
 }
 
-fn refusal(number: u32) -> Outcome {
-    Outcome { number, count: 0 }
-}
-
-// What is joined of two deliveries that were read: 20 for differing numbers of lists, 21 for a joined list over 65,535, then 6. How
-// long the outcome is, writing it into no bytes tells.
-fn written(row: &mut [u8], full: &[u32], f: Lists, daily: &[u32], d: Lists) -> Outcome {
-    if f.count != d.count {
-        return refusal(20);
+// What is joined of two deliveries that were read. How long the outcome is, writing it into no bytes tells.
+fn write(row: &mut [u8], pair: Pair) -> Result<usize, Refusal> {
+    if pair.full.lists.count != pair.daily.lists.count {
+        return Err(Refusal::ListCountsDiffer);
     }
-    if is_long(full, f, daily, d) {
-        return refusal(21);
+    if pair.is_long() {
+        return Err(Refusal::ListTooLong);
     }
-    let mut none = [0u8; 0];
-    let count = bytes(put_all(&mut none, full, f, daily, d));
+    let count = bytes(put_all(&mut [], pair));
     if row.len() < count {
-        return refusal(6);
+        return Err(Refusal::NoRoom);
     }
-    put_all(row, full, f, daily, d);
-    Outcome { number: 0, count }
+    put_all(row, pair);
+    Ok(count)
 }
 
-// The two joined into a row, of which the bytes behind the outcome are left alone, and with a refusal all. The numbers of each are
-// laid into a row of their own, which is to have a place for all of them.
+// The two joined into a row, of which the bytes behind the outcome are left alone, and with a refusal all; how many bytes were
+// written. The numbers of each are laid into a row of their own, which is to have a place for all of them.
 pub fn join(
     full: &[u8],
     daily: &[u8],
     row: &mut [u8],
     full_numbers: &mut [u32],
     daily_numbers: &mut [u32],
-) -> Outcome {
-    let f = delivery::read(full, full_numbers);
-    if f.number != 0 {
-        return refusal(f.number);
-    }
-    let d = delivery::read(daily, daily_numbers);
-    if d.number != 0 {
-        return refusal(d.number);
-    }
-    written(row, full_numbers, f.lists, daily_numbers, d.lists)
+) -> Result<usize, Refusal> {
+    let full_lists = reading::read(full, full_numbers)?;
+    let daily_lists = reading::read(daily, daily_numbers)?;
+    let pair = Pair {
+        full: Delivery {
+            numbers: full_numbers,
+            lists: full_lists,
+        },
+        daily: Delivery {
+            numbers: daily_numbers,
+            lists: daily_lists,
+        },
+    };
+    write(row, pair)
 }

@@ -1,10 +1,12 @@
 -- What the call leaves: with a refusal nothing has changed; else the shifted rows are those of the definition. Assumes nothing.
 use mathlib.Core.Path.{◌≡◌, refl, sym, ap, ap₂, subst, ◌∙◌}
-use mathlib.Core.Bool.{Bool, true, false}
+use mathlib.Core.Bool.{Bool, true, false, not, beq}
 use mathlib.Core.List.{List, [], ◌∷◌, ◌++◌}
 use Prim.Native.Nat.{ℕ, zero, suc, ◌+◌, ◌*◌, ◌≤◌, ◌<◌}
 use native.Mathlib.Omega.{arith}
 use lib.ListN.{length, get_or, take, drop, length-take, take-append-drop}
+use Rattle.std.proofs.Common.{Result}
+use Rattle.std.specs.Result.{IsErrAnd}
 use Rattle.model.specs.Outcome.{Outcome, refused, accepted, ◌>>=◌, ◌>>◌, require, number_of, sent}
 use Rattle.model.specs.Lists.{top, Numbers, lists_from, ends_hold, Lent, lists_of}
 use Rattle.model.specs.Expression.{Tree}
@@ -24,10 +26,12 @@ use Rattle.changes.proofs.RequestOne.{passed-leaves}
 use Rattle.lists.proofs.Spans.{counts}
 use Rattle.lists.proofs.Ends.{hold_next}
 use Rattle.shifts.specs.Shift.{Shifts, shifted, Movable, CanMove, ends_moved}
-use Rattle.update.specs.declared.Plan.{Plan}
-use Rattle.update.specs.Plans.{Placed, plan_of, plan_says, placed_of, differs, CanCount}
-use Rattle.update.proofs.Tests.{added, found_of}
-use Rattle.update.proofs.Whole.{AllPassed, all_passed, with_it, shifted-is}
+use Rattle.refusals.specs.declared.Refusal.{Refusal}
+use Rattle.refusals.specs.Numbers.{number, outcome}
+use Rattle.refusals.proofs.Up.{up as refused_up}
+use Rattle.update.specs.Plans.{Placed, plan_of, placed_of}
+use Rattle.update.proofs.Tests.{added, number_above}
+use Rattle.update.proofs.Whole.{AllPassed, with_it, shifted-is}
 
 -- ---- a refusal
 module _ (l : Lent) (packed : List ℕ) (c : Change) (kept : List ℕ) (count : ℕ) where
@@ -53,16 +57,14 @@ module _ (l : Lent) (packed : List ℕ) (c : Change) (kept : List ℕ) (count : 
           let are : lists_from l.numbers 0 l.ends ≡ s.lists = (lists_accepted l s.lists (source-accepted l packed s e).0).are in
           name (named_in l c.list) _ _ (rw are (tests (shows kept count (shown s)) (is_new c s.lists) (has_room c s.lists) (fits l kept (changed c s)) _ _))
 
-  pub refusal-leaves : (r : Plan) → plan_says r ≡ placed_of l packed c kept count → (r.number ≡ 0 → ⊥) → updated r.number l.numbers l.ends kept count ≡ update l packed c kept count
-  unfolding plan_says update sent number_of
-  refusal-leaves r e some =
-      let same : r.number ≡ number_of (update_of l packed c kept count) = says r.number refl ∙ ap number_of e ∙ numbers-same in
-      let is = refused_by (update_of l packed c kept count) (λ z. some (same ∙ z)) in
-      rw (is, sym same)
-    where
-      says : (n : ℕ) → r.number ≡ n → n ≡ number_of (plan_says r)
-      says zero z = rw z
-      says (suc n) z = rw z
+  -- a refusal that goes up by `?`
+  pub refusal-leaves : (r : Result (Unit {0}) Refusal) (e : Refusal) → IsErrAnd r (λ y. y ≡ e) → refused (number e) ≡ placed_of l packed c kept count
+      → updated (number_of (outcome r)) l.numbers l.ends kept count ≡ update l packed c kept count
+  unfolding update sent number_of
+  refusal-leaves r e h found =
+      let same : number e ≡ number_of (update_of l packed c kept count) = ap number_of found ∙ numbers-same in
+      let is = refused_by (update_of l packed c kept count) (λ z. omega (arith, z, same, number_above e)) in
+      ap (λ (o : Outcome (Unit {0})). updated (number_of o) l.numbers l.ends kept count) (refused_up r e h) ∙ rw (is, sym same)
 
 -- ---- no end is above 32 times 65,535
 ends-small : (size start : ℕ) (ends : List ℕ) (i : ℕ) → ends_hold size start ends ≡ true → i < length ends → get_or ends i 0 ≤ start + 65535 * length ends
@@ -180,12 +182,11 @@ module _ (l : Lent) (packed : List ℕ) (c : Change) (kept : List ℕ) (count : 
     row : m ≡ with_it will M (passed M c.number) c.number
     counts-to : length m ≡ moved will count
     shift : Shifts will (passed M c.number) count (length kept)
-    can : CanCount will count
 
-  changes : (was will : Bool) → member ls t c.number ≡ was → member (new_lists c ls) t c.number ≡ will → differs was will ≡ true → length kept < 18446744073709551616 → Changes will
-  changes true true e w d fits = absurd (not_both d refl)
-  changes false false e w d fits = absurd (not_both d refl)
-  changes false true e w d fits =
+  changes : (was will : Bool) → member ls t c.number ≡ was → member (new_lists c ls) t c.number ≡ will → not (beq was will) ≡ true → Changes will
+  changes true true e w d = absurd (not_both d refl)
+  changes false false e w d = absurd (not_both d refl)
+  changes false true e w d =
       let absent = members_are ls t c.number ∙ e in
       let long : length m ≡ suc count = ap (λ (l : List ℕ). length l) (m-is ∙ members_come c ls up small t w e) ∙ insert-long c.number M 0 m_up absent ∙ ap suc (sym counted) in
       let room : count < length kept = omega (arith, long, few, ap (λ (l : List ℕ). length l) m-is) in
@@ -193,27 +194,22 @@ module _ (l : Lent) (packed : List ℕ) (c : Change) (kept : List ℕ) (count : 
         row = m-is ∙ members_come c ls up small t w e ∙ insert-at 0 c.number M m_up absent;
         counts-to = long;
         shift = (omega (arith, passed-few M c.number, counted), room);
-        can = omega arith;
       }
-  changes true false e w d fits =
+  changes true false e w d =
       let present = members_are ls t c.number ∙ e in
       let gone : m ≡ remove c.number M = m-is ∙ members-go c ls up small t w e in
       record {
         row = gone ∙ remove-at 0 c.number M m_up present;
         counts-to = omega (arith, ap (λ (l : List ℕ). length l) gone, remove-long c.number M present, counted);
         shift = (omega (arith, passed-less M c.number present, counted), inside);
-        can = omega (arith, passed-less M c.number present, counted);
       }
 
-  module _ (d : differs p.was p.will ≡ true) (fits : length kept < 18446744073709551616) where
+  module _ (d : not (beq p.was p.will) ≡ true) where
     change : Changes p.will
-    change = changes p.was p.will was-is will-is d fits
+    change = changes p.was p.will was-is will-is d
 
     pub row_shift : Shifts p.will p.place count (length kept)
     row_shift = subst (λ (at : ℕ). Shifts p.will at count (length kept)) place_is change.shift
-
-    pub count_can : CanCount p.will count
-    count_can = change.can
 
     pub row_left : (row : List ℕ) (held : ℕ) → row ≡ shifted p.will kept p.place count c.number → held ≡ moved p.will count → RowLeft s c kept row held
     row_left row held r h = (
@@ -223,8 +219,8 @@ module _ (l : Lent) (packed : List ℕ) (c : Change) (kept : List ℕ) (count : 
     )
 
   -- or neither
-  module _ (d : differs p.was p.will ≡ false) where
-    stays : (was will : Bool) → member ls t c.number ≡ was → member (new_lists c ls) t c.number ≡ will → differs was will ≡ false → m ≡ M
+  module _ (d : not (beq p.was p.will) ≡ false) where
+    stays : (was will : Bool) → member ls t c.number ≡ was → member (new_lists c ls) t c.number ≡ will → not (beq was will) ≡ false → m ≡ M
     stays true true e w d = m-is ∙ members_stay c ls up small t (w ∙ sym e)
     stays false false e w d = m-is ∙ members_stay c ls up small t (w ∙ sym e)
     stays true false e w d = absurd (not_both refl d)
@@ -243,8 +239,3 @@ module _ (l : Lent) (packed : List ℕ) (c : Change) (kept : List ℕ) (count : 
   pub leaves : (numbers ends row : List ℕ) (held : ℕ) → numbers ≡ shifted c.adds l.numbers p.at p.used c.number → ends ≡ ends_moved c.adds c.list l.ends
       → RowLeft s c kept row held → updated 0 numbers ends row held ≡ update l packed c kept count
   leaves numbers ends row held e f g = (λ i. updated 0 ((e ∙ numbers_left) i) ((f ∙ ends-left) i) (g.0 i) (g.1 i)) ∙ sym (passed-leaves l packed c kept count s a.is-source a.passed)
-
--- what a Plan with number 0 has found is what the tests find
-pub plan_passed : (l : Lent) (packed : List ℕ) (c : Change) (kept : List ℕ) (count : ℕ) (r : Plan) → plan_says r ≡ placed_of l packed c kept count → r.number ≡ 0 → AllPassed l packed c kept count (found_of r)
-unfolding plan_says
-plan_passed l packed c kept count r e z = all_passed l packed c kept count (found_of r) (sym e ∙ rw z)

@@ -1,12 +1,14 @@
 -- The tests behind 17: each number under its condition, and what is found where none applies. Assumes nothing.
 use mathlib.Core.Path.{◌≡◌, refl, sym, ap, ◌∙◌}
-use mathlib.Core.Bool.{Bool, true, false, not, ◌||◌}
+use mathlib.Core.Bool.{Bool, true, false, not, ◌||◌, beq}
 use mathlib.Core.List.{List, [], ◌∷◌}
 use Prim.Native.Nat.{ℕ, zero, suc, ◌-◌, ◌≤◌, ◌<◌}
 use native.Mathlib.Omega.{arith}
 use borrow.Author.Tests.{le-leb, lt-leb, lt-ltb, le-ltb, leb-true, leb-false, ltb-true, ltb-false}
 use lib.Dec.{leb, ltb}
 use lib.ListN.{length, get_or, take, drop, length-append, length-take, length-drop}
+use Rattle.std.proofs.Common.{Result, Ok, Err}
+use Rattle.std.specs.Result.{IsErrAnd}
 use Rattle.model.specs.Outcome.{refused, accepted}
 use Rattle.model.specs.Lists.{top, lists_from, ends_hold}
 use Rattle.model.specs.Expression.{Tree}
@@ -18,31 +20,34 @@ use Rattle.model.proofs.Denoted.{members_up, members_are}
 use Rattle.changes.proofs.Changes.{insert-long, remove-long, members_stay, members_come, members-go, used_of, place_of, used-within, place_come, place-go, numbers_come, numbers-go, new_absent, new_present}
 use Rattle.lists.specs.Readable.{Readable}
 use Rattle.lists.proofs.Spans.{list_runs}
+use Rattle.refusals.specs.declared.Refusal.{Refusal}
+use Rattle.refusals.specs.Numbers.{number}
 use Rattle.update.specs.declared.Plan.{Plan}
-use Rattle.update.specs.Plans.{differs, room_number, room_test, first_number, Placed, plan_says, plan_of}
+use Rattle.update.specs.Plans.{room_number, room_test, first_number, Placed, plan_says, plan_of}
 
-pub says-refused : (r : Plan) (n : ℕ) → r.number ≡ n → (n ≡ 0 → ⊥) → plan_says r ≡ refused n
-unfolding plan_says
-says-refused r zero e some = absurd (some refl)
-says-refused r (suc n) e some = rw e
+-- a refusal that goes up by `?`
+pub says-refused : (r : Result Plan Refusal) (e : Refusal) → IsErrAnd r (λ y. y ≡ e) → plan_says r ≡ refused (number e)
+says-refused (Ok p) e h = absurd h
+says-refused (Err y) e h = ap (λ (x : Refusal). refused (number x)) h
 
--- what a Plan with number 0 has found
+pub number_above : (r : Refusal) → 1 ≤ number r
+number_above r = grind arith
+
+-- what a Plan has found
 abbrev pub found_of : Plan → Placed
 found_of r = record { at = r.at; used = r.used; place = r.place; was = r.was; will = r.will }
 
-says-found : (r : Plan) → r.number ≡ 0 → plan_says r ≡ accepted (found_of r)
-unfolding plan_says
-says-found r e = rw e
-
 -- ---- 15
 module _ (c : Change) (ls : List (List ℕ)) where
-  pub is_news : differs c.adds (among c.number (old_list c ls)) ≡ is_new c ls
+  pub is_news : not (beq c.adds (among c.number (old_list c ls))) ≡ is_new c ls
   unfolding is_new
   is_news = go c.adds (among c.number (old_list c ls))
     where
-      go : (adds stood : Bool) → differs adds stood ≡ elim adds [ true ↦ not stood | false ↦ stood ]
-      go true stood = refl
-      go false stood = refl
+      go : (adds stood : Bool) → not (beq adds stood) ≡ elim adds [ true ↦ not stood | false ↦ stood ]
+      go true true = refl
+      go true false = refl
+      go false true = refl
+      go false false = refl
 
   -- ---- 16
   no_room : c.adds ≡ true → 65535 ≤ length (old_list c ls) → has_room c ls ≡ false
@@ -198,16 +203,23 @@ module _ (numbers ends : List ℕ) (hold : ends_hold (length numbers) 0 ends ≡
     takes_all kept fits h = members_fit kept fits (λ w e. ltb-true (length (members ls t)) kept (rw (w, e) at h))
 
     -- the first number that applies, or all that was found
-    pub verdict_says : Readable numbers ends → (kept : List ℕ) (count : ℕ) → length (members ls t) ≤ length kept → (r : Plan)
-        → r.number ≡ first_number (is_new c ls) (room_test (length numbers) ends c.list c.adds) (Takes ls c t (length kept)) → found_of r ≡ placed numbers ends c kept count t → plan_says r ≡ plan_of numbers ends c kept count t
-    verdict_says readable kept count fits r is found = go (is_new c ls) (room_test (length numbers) ends c.list c.adds) (Takes ls c t (length kept)) refl refl refl is
+    abbrev pub Verdict : ℕ → ℕ
+    Verdict size = first_number (is_new c ls) (room_test (length numbers) ends c.list c.adds) (Takes ls c t size)
+
+    pub verdict-refused : Readable numbers ends → (kept : List ℕ) (count n : ℕ) → 1 ≤ n → n ≡ Verdict (length kept) → refused n ≡ plan_of numbers ends c kept count t
+    verdict-refused readable kept count n above is = go (is_new c ls) (room_test (length numbers) ends c.list c.adds) (Takes ls c t (length kept)) refl refl refl is
       where
-        go : (news : Bool) (n : ℕ) (f : Bool) → is_new c ls ≡ news → room_test (length numbers) ends c.list c.adds ≡ n → Takes ls c t (length kept) ≡ f → r.number ≡ first_number news n f → plan_says r ≡ plan_of numbers ends c kept count t
-        go false n f e g h q = says-refused r 15 q (λ z. omega (arith, z)) ∙ plan_15 numbers ends c kept count t e
-        go true (suc n) f e g h q = says-refused r (suc n) q (λ z. omega (arith, z)) ∙ ap refused (sym g) ∙ room-refused readable e kept count t (λ z. omega (arith, z, g))
-        go true zero false e g h q =
-            let w = room_passed readable e g in
-            says-refused r 6 q (λ z. omega (arith, z)) ∙ plan_6_members numbers ends c kept count t e w.0 w.1 (takes_not (length kept) h)
-        go true zero true e g h q =
-            let w = room_passed readable e g in
-            says-found r q ∙ ap accepted found ∙ plan_0 numbers ends c kept count t e w.0 w.1 (takes_all (length kept) fits h)
+        go : (news : Bool) (m : ℕ) (f : Bool) → is_new c ls ≡ news → room_test (length numbers) ends c.list c.adds ≡ m → Takes ls c t (length kept) ≡ f → n ≡ first_number news m f → refused n ≡ plan_of numbers ends c kept count t
+        go false m f e g h q = ap refused q ∙ plan_15 numbers ends c kept count t e
+        go true (suc m) f e g h q = ap refused (q ∙ sym g) ∙ room-refused readable e kept count t (λ z. omega (arith, z, g))
+        go true zero false e g h q = let w = room_passed readable e g in ap refused q ∙ plan_6_members numbers ends c kept count t e w.0 w.1 (takes_not (length kept) h)
+        go true zero true e g h q = absurd (omega (arith, above, q))
+
+    pub verdict_passed : Readable numbers ends → (kept : List ℕ) (count : ℕ) → length (members ls t) ≤ length kept → 0 ≡ Verdict (length kept) → accepted (placed numbers ends c kept count t) ≡ plan_of numbers ends c kept count t
+    verdict_passed readable kept count fits is = go (is_new c ls) (room_test (length numbers) ends c.list c.adds) (Takes ls c t (length kept)) refl refl refl is
+      where
+        go : (news : Bool) (m : ℕ) (f : Bool) → is_new c ls ≡ news → room_test (length numbers) ends c.list c.adds ≡ m → Takes ls c t (length kept) ≡ f → 0 ≡ first_number news m f → accepted (placed numbers ends c kept count t) ≡ plan_of numbers ends c kept count t
+        go false m f e g h q = absurd (omega (arith, q))
+        go true (suc m) f e g h q = absurd (omega (arith, q))
+        go true zero false e g h q = absurd (omega (arith, q))
+        go true zero true e g h q = let w = room_passed readable e g in plan_0 numbers ends c kept count t e w.0 w.1 (takes_all (length kept) fits h)

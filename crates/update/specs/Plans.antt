@@ -1,5 +1,5 @@
 -- What the tests of the call find, ahead of any change, whatever tree stands at the first node.
-use Rattle.std.specs.Prelude.{◌≡◌, Bool, true, false, not, List, ◌∷◌, ℕ, zero, suc, ◌+◌, ◌-◌, ◌≤◌, ◌<◌, leb, length, get_or, take}
+use Rattle.std.specs.Prelude.{◌≡◌, Bool, true, false, List, ◌∷◌, ℕ, zero, suc, ◌+◌, ◌-◌, leb, length, get_or, take, Result, Ok, Err}
 use Rattle.model.specs.Outcome.{Outcome, refused, accepted, ◌>>=◌, ◌>>◌, require}
 use Rattle.model.specs.Lists.{lists_from, Lent, lend}
 use Rattle.model.specs.Expression.{Tree}
@@ -8,12 +8,9 @@ use Rattle.model.specs.Steps.{passed}
 use Rattle.model.specs.Run.{Source, named_in, source_of}
 use Rattle.model.specs.Update.{Change, old_list, new_lists, changed, shown, shows, is_new, has_room, fits}
 use Rattle.reader.specs.Rows.{Stands}
+use Rattle.refusals.specs.declared.Refusal.{Refusal}
+use Rattle.refusals.specs.Numbers.{number}
 use Rattle.update.specs.declared.Plan.{Plan}
-
--- just one of two holds
-abbrev pub differs : Bool → Bool → Bool
-differs true b = not b
-differs false b = b
 
 -- 16, then 6 for the row of numbers, of so many places: only where a number is added
 abbrev pub room_number : (adds full short : Bool) → ℕ
@@ -40,9 +37,10 @@ pub record Placed : Type 0 where
   pub was : Bool
   pub will : Bool
 
--- what a Plan says: its number refuses, or it is 0 and the rest holds
-unfoldable pub plan_says : Plan → Outcome Placed
-plan_says p = elim p.number [ zero ↦ accepted (record { at = p.at; used = p.used; place = p.place; was = p.was; will = p.will }) | suc n ↦ refused (suc n) ]
+-- what the tests find, or the number of what they refuse
+abbrev pub plan_says : Result Plan Refusal → Outcome Placed
+plan_says (Ok p) = accepted (record { at = p.at; used = p.used; place = p.place; was = p.was; will = p.will })
+plan_says (Err r) = refused (number r)
 
 -- the tests behind 17, and what they find; the word is no part of what fits
 unfoldable pub plan_of : (numbers ends : List ℕ) → Change → (kept : List ℕ) → ℕ → Tree → Outcome Placed
@@ -57,7 +55,7 @@ plan_of numbers ends c kept count t =
       will = member (new_lists c ls) t c.number;
     })))
 
-abbrev pub Plans : (numbers ends nodes : List ℕ) → Change → (kept : List ℕ) → ℕ → Plan → Type 0
+abbrev pub Plans : (numbers ends nodes : List ℕ) → Change → (kept : List ℕ) → ℕ → Result Plan Refusal → Type 0
 Plans numbers ends nodes c kept count r = (t : Tree) → Stands (length ends) nodes t 0 → plan_says r ≡ plan_of numbers ends c kept count t
 
 -- all tests, in the order of `Update.update_of`
@@ -67,8 +65,3 @@ placed_of l expression c kept count = do
   named_in l c.list
   require 17 (shows kept count (shown s))
   plan_of l.numbers l.ends c kept count s.tree
-
--- a count that can move by one
-abbrev pub CanCount : Bool → ℕ → Type 0
-CanCount true n = n < 18446744073709551615
-CanCount false n = 1 ≤ n

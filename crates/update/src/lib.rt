@@ -2,25 +2,28 @@
 // it. Nothing is written before the last test has passed.
 #![tactic(auto)]
 
-ghost use Rattle.std.specs.Prelude.{◌≡◌, ◌-◌, ◌≤◌, ◌<◌, true, not, ◌||◌, ◌∷◌, ltb, length, get_or};
-ghost use Rattle.model.specs.Outcome.{accepted};
+ghost use Rattle.std.specs.Prelude.{◌≡◌, ◌≤◌, ◌<◌, true, not, ◌||◌, ◌∷◌, ltb, length, get_or};
+ghost use Rattle.model.specs.Outcome.{number_of};
 ghost use Rattle.model.specs.Lists.{count_holds, ends_hold, lend};
 ghost use Rattle.model.specs.Update.{change, update as update_call, updated};
-ghost use Rattle.model.specs.RequestOne.{moved, RequestOneMet};
-ghost use Rattle.reader.specs.Rows.{Standing, Ready};
+ghost use Rattle.model.specs.RequestOne.{RequestOneMet};
+ghost use Rattle.reader.specs.Rows.{Standing};
+ghost use Rattle.refusals.specs.Numbers.{outcome};
+ghost use Rattle.shifts.specs.Shift.{place_of};
 ghost use Rattle.kept.specs.Kept.{as_change, Kept};
-ghost use Rattle.update.specs.Plans.{differs, room_test, first_number, Plans, plan_says, placed_of, CanCount};
+ghost use Rattle.update.specs.Plans.{room_test, first_number, Plans, plan_says, placed_of};
 
 use expression::Form;
+use reader::Generator;
+use refusals::Refusal;
 
 // The most numbers of a list.
 const LONGEST: usize = 65535;
 
-// What the tests behind 17 find: a refusal's number, or 0 and where the number stands or belongs in the row of numbers and in the
-// kept row, how far the row of numbers is used, and whether the number was a member and will be one.
+// What the tests behind 17 find: where the number stands or belongs in the row of numbers and in the kept row, how far the row of
+// numbers is used, and whether the number was a member and will be one.
 #[derive(Drop)]
 struct Plan {
-    number: u32,
     at: usize,
     used: usize,
     place: usize,
@@ -28,103 +31,86 @@ struct Plan {
     will: bool,
 }
 
-impl Plan {
-    fn refused(number: u32) -> Self
-        ensures { result.number ≡ number }
-    {
-        Plan {
-            number,
-            at: 0,
-            used: 0,
-            place: 0,
-            was: false,
-            will: false,
-        }
-    }
-}
-
-// 16 for a full list, then 6 for a full row of numbers; 0 for neither, or where a number is removed.
-fn test_room(size: usize, ends: &[u32], list: usize, adds: bool) -> u32
+// 16 for a full list, then 6 for a full row of numbers; neither where a number is removed.
+#[tactic(auto, unfolding(model::specs::Outcome::number_of))]
+fn test_room(size: usize, ends: &[u32], list: usize, adds: bool) -> Result<(), Refusal>
     requires { (list < length ends.now) × (get_or (0 ∷ ends.now) list 0 ≤ get_or ends.now list 0) }
-    ensures { result ≡ room_test size ends.now list adds }
+    ensures { number_of (outcome result) ≡ room_test size ends.now list adds }
 {
     if !adds {
-        return 0;
+        return Ok(());
     }
     if LONGEST <= lists::length_of(ends, list) {
-        return 16;
+        return Err(Refusal::ListFull);
     }
     if size <= lists::start_of(ends, ends.len()) {
-        return 6;
+        return Err(Refusal::NoRoom);
     }
-    0
+    Ok(())
 }
 
 // Whether a kept row of so many places takes the number, if it comes: where it stood already, or will not, no place is needed.
 fn takes(was: bool, will: bool, size: usize, count: usize) -> bool
     ensures { result ≡ (was || (not will || ltb count size)) }
 {
-    if was {
-        return true;
-    }
-    if !will {
-        return true;
-    }
-    count < size
+    was || !will || count < size
 }
 
-// Whether just one of two holds: so a change is news where the number is absent and added, or present and removed.
-fn differ(a: bool, b: bool) -> bool
-    ensures { result ≡ differs a b }
-{
-    if a { !b } else { b }
-}
-
-// The first number that applies: 15 for what is no news, 16 or 6 for room that a number lacks, 6 for room that a member lacks.
-fn verdict(news: bool, room: u32, fits: bool) -> u32
-    ensures { result ≡ first_number news room fits }
+// The first refusal that applies: 15 for what is no news, 16 or 6 for room that a number lacks, 6 for room that a member lacks.
+#[tactic(auto, unfolding(model::specs::Outcome::number_of))]
+fn verdict(news: bool, room: Result<(), Refusal>, fits: bool) -> Result<(), Refusal>
+    ensures { number_of (outcome result) ≡ first_number news (number_of (outcome room)) fits }
 {
     if !news {
-        return 15;
+        return Err(Refusal::NothingChanges);
     }
-    if room != 0 {
-        return room;
+    room?;
+    if !fits {
+        return Err(Refusal::NoRoom);
     }
-    if fits { 0 } else { 6 }
+    Ok(())
+}
+
+// Where a number stands, or else where it belongs.
+fn place_of(found: Result<usize, usize>) -> usize
+    ensures { result ≡ place_of found }
+{
+    match found {
+        Ok(at) | Err(at) => at,
+    }
 }
 
 // The tests behind 17, in their order: 15, 16, then 6 of either row.
 fn examine(
-    numbers: &[u32],
-    ends: &[u32],
-    nodes: &[u8; 48],
-    behind: &[usize; 48],
+    generator: &Generator,
     list: usize,
     number: u32,
     adds: bool,
     members: &[u32],
     count: usize,
-) -> Plan
-    requires ready { Ready numbers.now ends.now nodes.now behind.now }
-    requires standing { Standing (length ends.now) nodes.now 0 }
-    requires ends_value { (ends_hold (length numbers.now) 0 ends.now ≡ true) × (count_holds (length ends.now) ≡ true) × (list < length ends.now) }
-    requires kept { Kept numbers.now ends.now nodes.now members.now count }
-    ensures { Plans numbers.now ends.now nodes.now (as_change list number adds) members.now count result }
+) -> Result<Plan, Refusal>
+    requires standing { Standing (length generator.now.ends.now) generator.now.nodes.now 0 }
+    requires ends_value { (ends_hold (length generator.now.numbers.now) 0 generator.now.ends.now ≡ true) × (count_holds (length generator.now.ends.now) ≡ true) × (list < length generator.now.ends.now) }
+    requires kept { Kept generator.now.numbers.now generator.now.ends.now generator.now.nodes.now members.now count }
+    ensures { Plans generator.now.numbers.now generator.now.ends.now generator.now.nodes.now (as_change list number adds) members.now count result }
 {
+    let numbers = generator.numbers;
+    let ends = generator.ends;
     let found = kept::find_in(numbers, ends, list, number);
     let shown = shifts::find(&members[..count], number);
-    let will = kept::will_be_member(numbers, ends, nodes, behind, list, number, adds);
-    let news = differ(adds, found.there);
+    let will = kept::will_be_member(generator, list, number, adds);
+    let news = adds != found.is_ok();
     let room = test_room(numbers.len(), ends, list, adds);
-    let fits = takes(shown.there, will, members.len(), count);
-    Plan {
-        number: verdict(news, room, fits),
-        at: found.place,
+    let was = shown.is_ok();
+    let fits = takes(was, will, members.len(), count);
+    verdict(news, room, fits)?;
+    Ok(Plan {
+        at: place_of(found),
         used: lists::start_of(ends, ends.len()),
-        place: shown.place,
-        was: shown.there,
+        place: place_of(shown),
+        was,
         will,
-    }
+    })
 }
 
 // All tests, in their order: of lists, of the expression, 4 and 18 for the list, 17, and those behind it.
@@ -138,40 +124,57 @@ fn find_plan(
     adds: bool,
     members: &[u32],
     count: usize,
-) -> Plan
+) -> Result<Plan, Refusal>
     ensures { plan_says result ≡ placed_of (lend numbers.now ends.now word) packed.now (as_change list number adds) members.now count }
 {
-    let refused = lists::test_lists(numbers, ends, word);
-    if refused != 0 {
-        return Plan::refused(refused);
-    }
-    let read = expression::read_expression(Form::Packed, packed, ends.len(), word);
-    if read.number != 0 {
-        return Plan::refused(read.number);
-    }
-    let named = expression::test_list(ends.len(), word, list);
-    if named != 0 {
-        return Plan::refused(named);
-    }
+    lists::test_lists(numbers, ends, word)?;
+    let read = expression::read_expression(Form::Packed, packed, ends.len(), word)?;
+    expression::test_list(ends.len(), word, list)?;
     if members.len() < count {
-        return Plan::refused(17);
+        return Err(Refusal::NotKept);
     }
     let nodes = read.nodes;
     let behind = reader::node_ends(&nodes);
-    if !kept::shows(numbers, ends, &nodes, &behind, &members[..count]) {
-        return Plan::refused(17);
+    let generator = Generator {
+        numbers,
+        ends,
+        nodes: &nodes,
+        behind: &behind,
+    };
+    if !kept::shows(&generator, &members[..count]) {
+        return Err(Refusal::NotKept);
     }
-    examine(
-        numbers, ends, &nodes, &behind, list, number, adds, members, count,
-    )
+    examine(&generator, list, number, adds, members, count)
 }
 
-// A count moved by one.
-fn count_by_one(count: usize, adds: bool) -> usize
-    requires { CanCount adds count }
-    ensures { result ≡ moved adds count }
+// A change, with a refusal as an `Err`.
+fn try_update(
+    numbers: &mut [u32],
+    ends: &mut [u32],
+    word: u32,
+    packed: &[u8],
+    list: usize,
+    number: u32,
+    add: u8,
+    members: &mut [u32],
+    count: &mut usize,
+) -> Result<(), Refusal>
+    ensures { updated (number_of (outcome result)) numbers.new ends.new members.new count.new ≡ update_call (lend numbers.old ends.old word) packed.now (change list number add) members.old count.old }
 {
-    if adds { count + 1 } else { count - 1 }
+    let held = *count;
+    let adds = add != 0;
+    let plan = find_plan(
+        numbers, ends, word, packed, list, number, adds, members, held,
+    )?;
+    shifts::shift(numbers, plan.at, plan.used, number, adds);
+    shifts::move_ends(ends, list, adds);
+    let member_changes = plan.was != plan.will;
+    if member_changes {
+        shifts::shift(members, plan.place, held, number, plan.will);
+        let now = if plan.will { held + 1 } else { held - 1 };
+        *count = now;
+    }
+    Ok(())
 }
 
 // Adds a number to a list or removes it from it, and brings the kept row of members and its count up to date: `add` is 0 to remove,
@@ -190,20 +193,10 @@ pub fn update(
     ensures call { updated result numbers.new ends.new members.new count.new ≡ update_call (lend numbers.old ends.old word) packed.now (change list number add) members.old count.old }
     ensures request { RequestOneMet (lend numbers.old ends.old word) packed.now (change list number add) members.old count.old (updated result numbers.new ends.new members.new count.new) }
 {
-    let held = *count;
-    let adds = add != 0;
-    let plan = find_plan(
-        numbers, ends, word, packed, list, number, adds, members, held,
-    );
-    if plan.number != 0 {
-        return plan.number;
+    match try_update(
+        numbers, ends, word, packed, list, number, add, members, count,
+    ) {
+        Ok(()) => 0,
+        Err(refusal) => u32::from(refusal),
     }
-    shifts::shift(numbers, plan.at, plan.used, number, adds);
-    shifts::move_ends(ends, list, adds);
-    if differ(plan.was, plan.will) {
-        shifts::shift(members, plan.place, held, number, plan.will);
-        let now = count_by_one(held, plan.will);
-        *count = now;
-    }
-    0
 }

@@ -16,7 +16,8 @@ use Rattle.model.specs.Delivery.{largest_gap, width, read_gaps, read_body, read_
 use Rattle.model.proofs.Accepted.{accepted-same, bound, required}
 use Rattle.fields.specs.Positions.{take_at}
 use Rattle.fields.proofs.Fields.{took}
-use Rattle.walk.specs.Heads.{Header, header_width, header, gap}
+use Rattle.walk.specs.declared.Header.{Header}
+use Rattle.walk.specs.Heads.{header_width, header, gap}
 use Rattle.walk.specs.Counts.{one_counted, list_head}
 use Rattle.walk.proofs.Reading.{follow, behind, body_is}
 use Rattle.walk.proofs.Counting.{left, supply, head_counted}

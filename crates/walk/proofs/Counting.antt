@@ -14,7 +14,19 @@ use Rattle.model.specs.Delivery
 use Rattle.model.specs.Delivery.{Form, Supplied, undelivered, came, supplied_numbers, is_delivered, take_count, by_bit, read_body}
 use Rattle.model.proofs.Accepted.{accepted-same, bound, assoc}
 use Rattle.walk.specs.Counts.{one_counted, list_head, read_list}
+use Rattle.std.proofs.Common.{Result, Ok, Err}
+use Rattle.std.specs.Result.{IsErrAnd}
+use Rattle.refusals.specs.declared.Refusal.{Refusal}
+use Rattle.refusals.specs.Numbers.{number}
+use Rattle.walk.specs.declared.Counted.{Counted}
+use Rattle.walk.specs.Answers.{counted_says}
 use Rattle.walk.proofs.Reading.{tested}
+
+-- ---- a refusal goes up by `?` as it came
+
+pub counted_up : (r : Result (Counted × ℕ) Refusal) (e : Refusal) → IsErrAnd r (λ y. y ≡ e) → counted_says r ≡ refused (number e)
+counted_up (Ok a) e h = absurd h
+counted_up (Err y) e h = ap (λ (x : Refusal). refused (number x)) h
 
 -- ---- in any form: one list, and those behind it
 

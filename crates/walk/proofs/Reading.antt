@@ -11,7 +11,8 @@ use Rattle.model.specs.Outcome.{Outcome, refused, accepted, ◌>>=◌, ◌>>◌,
 use Rattle.model.specs.Lists.{top}
 use Rattle.model.specs.Delivery.{largest_gap, width, read_gaps, read_body}
 use Rattle.model.proofs.Accepted.{accepted-same, bound, assoc}
-use Rattle.walk.specs.Heads.{Header, header_width, header, gap}
+use Rattle.walk.specs.declared.Header.{Header}
+use Rattle.walk.specs.Heads.{header_width, header, gap}
 use Rattle.walk.specs.Answers.{only}
 
 -- ---- only so much of what was read

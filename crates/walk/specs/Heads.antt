@@ -3,11 +3,7 @@
 use Rattle.std.specs.Prelude.{ℕ, zero, suc, ◌+◌, ltb}
 use Rattle.model.specs.Outcome.{Outcome, accepted, ◌>>=◌, ◌>>◌, require}
 use Rattle.model.specs.Lists.{top}
-
--- what stands before the gaps of a list: its first number (0 if it has none), the width of its gaps (0 if it has none)
-pub record Header : Type 0 where
-  pub first : ℕ
-  pub width : ℕ
+use Rattle.walk.specs.declared.Header.{Header}
 
 module _ {S : Type 0} (take_bits : ℕ → S → Outcome (ℕ × S)) where
   -- "if 2 or more, 5 bits of width minus 1": of n numbers behind the first

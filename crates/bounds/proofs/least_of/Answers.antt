@@ -1,26 +1,28 @@
--- `least_of` meets its contract: the least of the row is that of what was found and of what is left. The measure is how much is left.
--- Assumes nothing.
-use mathlib.Core.Path.{◌≡◌, ap, sym, ◌∙◌}
-use mathlib.Core.List.{List, ◌∷◌}
-use Prim.Native.Nat.{ℕ, ◌+◌, min}
-use native.Mathlib.Omega.{arith}
-use lib.ListN.{get_or, drop}
+-- `least_of` meets its contract: the library's least of a row is that of the definition. Assumes nothing.
+use mathlib.Core.Path.{◌≡◌, refl, sym, ap, ◌∙◌}
+use mathlib.Core.List.{List, [], ◌∷◌}
+use Prim.Native.Nat.{ℕ, min}
+use Rattle.std.specs.List.{fold, reduce}
+use Rattle.std.proofs.lemmas.Iterator.Adapters.{option_map_id}
+use Rattle.std.specs.Option.{unwrap_or}
+use Rattle.std.proofs.Common.{Option}
+use Rattle.std.proofs.lemmas.Iterator.{YieldsList-from_slice}
+use Rattle.std.proofs.lemmas.Iterator.Consumers.{YieldsList-from_copied, min_from_yields_List}
 use Rattle.bounds.specs.Backwards.{least}
-use Rattle.bounds.proofs.Sums.{least_first, least-left, least-end}
+use Rattle.bounds.proofs.Sums.{least-joins}
 use Rattle.bounds.proofs.least_of.Goals as goal
-use Rattle.bounds.proofs.least_of.Goals.{then-row-i, else-row-i}
 
-pub loop-i-init : goal.loop-i-init
-loop-i-init c = (c.requires, least_first _ c.requires)
+folded : (x : ℕ) (l : List ℕ) → fold min x l ≡ least (x ∷ l)
+unfolding least
+folded x [] = refl
+folded x (y ∷ l) = folded (min x y) l ∙ sym (least-joins x y l)
 
-pub loop-i-preserved : goal.loop-i-preserved
-loop-i-preserved c =
-    let row : List ℕ = c.args.row.now in
-    let l = c.loop-i in
-    let lower : min l.found (get_or row l.i 0) ≡ c.if-row-i.found = elim c.if-row-i.branch [ then-row-i w ↦ omega arith | else-row-i w ↦ omega arith ] in
-    (omega arith, l.invariant.1 ∙ least-left l.found row l.i (omega arith) ∙ ap (λ (x : ℕ). least (x ∷ drop (l.i + 1) row)) lower)
+least_is : (l : List ℕ) → unwrap_or (reduce min l) 0 ≡ least l
+unfolding least
+least_is [] = refl
+least_is (x ∷ l) = folded x l
 
 pub returns : goal.returns
 returns c =
-    let l = c.loop-i in
-    sym (l.invariant.1 ∙ least-end l.found c.args.row.now l.i (omega arith))
+    let found = min_from_yields_List c.copied.result c.min.result c.min.ensures.ran (YieldsList-from_copied (YieldsList-from_slice c.args.row.now cc)) in
+    c.unwrap_or.ensures ∙ ap (λ (o : Option ℕ). unwrap_or o 0) (sym (option_map_id _) ∙ found) ∙ least_is c.args.row.now

@@ -1,5 +1,4 @@
--- `most_bytes` meets its contract: the bits so far and those of the lists that are left come to all. The measure is how many lists are left.
--- Assumes nothing.
+-- `most_bytes` meets its contract: the bits so far and those of the lists that are left come to all. Assumes nothing.
 use mathlib.Core.Path.{◌≡◌, sym, ap, ◌∙◌}
 use mathlib.Core.List.{List}
 use Prim.Native.Nat.{ℕ, ◌+◌, ◌≤◌}
@@ -11,9 +10,6 @@ use Rattle.capacity.proofs.Lengths.{rises_at, length_at, lengths-many, lengths-f
 use Rattle.capacity.proofs.Bytes.{bits_left, bits-end, bits-within}
 use Rattle.bounds.proofs.most_bytes.Goals as goal
 use Rattle.bounds.proofs.most_bytes.Goals.{After-bits_of-bits, After-length_of, After-loop-k, At-loop-k}
-
-pub loop-k-init : goal.loop-k-init
-loop-k-init c = (omega arith, omega arith)
 
 few : (c : At-loop-k) → (k : ℕ) → get_or (lengths_from 0 c.args.ends.now) k 0 ≤ 65535
 few c = lengths-few 0 c.args.ends.now c.requires.0
@@ -38,17 +34,17 @@ pub bits_of-bits-requires : goal.bits_of-bits-requires
 bits_of-bits-requires c = (omega (arith, size c, few (goal.at.bits_of-bits-requires c).At-loop-k c.loop-k.k), omega arith)
 
 pub overflow_add-bits : goal.overflow_add-bits
-overflow_add-bits c = omega (arith, left (goal.at.overflow_add-bits c).After-bits_of-bits (size (goal.at.overflow_add-bits c).After-length_of), within (goal.at.overflow_add-bits c).At-loop-k, c.loop-k.invariant.1)
+overflow_add-bits c = omega (arith, left (goal.at.overflow_add-bits c).After-bits_of-bits (size (goal.at.overflow_add-bits c).After-length_of), within (goal.at.overflow_add-bits c).At-loop-k, c.loop-k.invariant)
 
 pub loop-k-preserved : goal.loop-k-preserved
-loop-k-preserved c = (omega arith, omega (arith, left (goal.at.loop-k-preserved c).After-bits_of-bits (size (goal.at.loop-k-preserved c).After-length_of), c.loop-k.invariant.1))
+loop-k-preserved c = omega (arith, left (goal.at.loop-k-preserved c).After-bits_of-bits (size (goal.at.loop-k-preserved c).After-length_of), c.loop-k.invariant)
 
 -- all of them
 all : (c : After-loop-k) → c.loop-k.bits ≡ 6 + most_bits (lengths_from 0 c.args.ends.now)
 all c =
     let ends : List ℕ = c.args.ends.now in
     let l = c.loop-k in
-    omega (arith, l.invariant.1, bits-end (lengths_from 0 ends) l.k (omega (arith, lengths-many 0 ends)))
+    omega (arith, l.invariant, bits-end (lengths_from 0 ends) l.k (omega (arith, lengths-many 0 ends)))
 
 pub overflow_add-result : goal.overflow_add-result
 overflow_add-result c = omega (arith, within (goal.at.overflow_add-result c).At-loop-k, all c)

@@ -1,22 +1,21 @@
--- `sum_of` meets its contract: what is summed up and what is left come to the whole. The measure is how much is left. Assumes nothing.
-use native.Mathlib.Omega.{arith}
-use Rattle.bounds.proofs.Sums.{sum_left, sum-end}
+-- `sum_of` meets its contract: the library's sum of a row is the paper's. Assumes nothing.
+use mathlib.Core.Path.{◌≡◌, refl, ap, ◌∙◌}
+use mathlib.Core.List.{List, [], ◌∷◌}
+use Prim.Native.Nat.{ℕ, ◌+◌}
+use Rattle.std.specs.List as std
+use Rattle.std.proofs.lemmas.List.Sums.{sum_by-cons}
+use Rattle.std.proofs.lemmas.Iterator.{YieldsList-from_slice}
+use Rattle.std.proofs.lemmas.Iterator.Consumers.{sum_from_yields_List, fits_from_yields_list}
+use Rattle.model.specs.Demands.{sum}
 use Rattle.bounds.proofs.sum_of.Goals as goal
 
-pub loop-i-init : goal.loop-i-init
-loop-i-init c = (omega arith, omega arith)
+same : (l : List ℕ) → std.sum l ≡ sum l
+unfolding sum
+same [] = refl
+same (x ∷ l) = sum_by-cons (λ n. n) x l ∙ ap (λ (n : ℕ). x + n) (same l)
 
-pub overflow_add-total : goal.overflow_add-total
-overflow_add-total c =
-    let l = c.loop-i in
-    omega (arith, l.invariant.1, sum_left c.args.row.now l.i (omega arith))
-
-pub loop-i-preserved : goal.loop-i-preserved
-loop-i-preserved c =
-    let l = c.loop-i in
-    (omega arith, omega (arith, l.invariant.1, sum_left c.args.row.now l.i (omega arith)))
+pub sum-requires-clause-fits : goal.sum-requires-clause-fits
+sum-requires-clause-fits c = fits_from_yields_list c.iter.result _ (YieldsList-from_slice c.args.row.now cc) (rw (same c.args.row.now) c.requires)
 
 pub returns : goal.returns
-returns c =
-    let l = c.loop-i in
-    omega (arith, l.invariant.1, sum-end c.args.row.now l.i (omega arith))
+returns c = sum_from_yields_List c.iter.result c.sum.result c.sum.ensures.ran (YieldsList-from_slice c.args.row.now cc) ∙ same c.args.row.now

@@ -6,10 +6,10 @@ use mathlib.Core.Logic.{◌⊎◌}
 use mathlib.Core.List.{List}
 use Prim.Native.Nat.{ℕ, ◌+◌, ◌-◌, ◌*◌, ◌≤◌}
 use lib.ListN.{length}
+use Rattle.model.specs.Steps as model
 use Rattle.model.specs.Steps.{Checked, says}
-use Rattle.reader.specs.declared.Readers.{Readers}
 use Rattle.reader.specs.Rows.{StandingEach}
-use Rattle.reader.specs.Sought.{readers_of, Tallied}
+use Rattle.reader.specs.Sought.{readers_of}
 use Rattle.checks.proofs.Until.{Say}
 use Rattle.checks.proofs.+check_check_members.Given as goal
 
@@ -24,21 +24,18 @@ decreases-check_members l = 2 * (48 - l.first) + 1
 -- ---- the checks of member nodes
 
 -- no one has said so yet, and the member nodes left decide; or one has, and its reply stands
-pub record Going (numbers ends nodes : List ℕ) (first count : ℕ) (until turned : Bool) (d : ℕ) (from here : Readers) (last : Bool) (at left : ℕ) : Type 0 where
+pub record Going (numbers ends nodes : List ℕ) (first count : ℕ) (until turned : Bool) (d : ℕ) (from here : model.Readers) (last : Bool) (at left : ℕ) : Type 0 where
   pub not_so : beq last until ≡ false
   pub stand : StandingEach (length ends) nodes at left
   pub later : first ≤ at
-  pub all_say : (c : Checked) → Say numbers ends nodes d until turned at left (readers_of here) c → Say numbers ends nodes d until turned first count (readers_of from) c
+  pub all_say : (c : Checked) → Say numbers ends nodes d until turned at left here c → Say numbers ends nodes d until turned first count from c
 
-pub record Done (numbers ends nodes : List ℕ) (first count : ℕ) (until turned : Bool) (d : ℕ) (from here : Readers) (last : Bool) : Type 0 where
+pub record Done (numbers ends nodes : List ℕ) (first count : ℕ) (until turned : Bool) (d : ℕ) (from here : model.Readers) (last : Bool) : Type 0 where
   pub so : beq last until ≡ true
-  pub say : Say numbers ends nodes d until turned first count (readers_of from) (says last (readers_of here))
+  pub say : Say numbers ends nodes d until turned first count from (says last here)
 
 abbrev pub invariant-check_members-loop-left : goal.invariant-check_members-loop-left
 invariant-check_members-loop-left l =
-    Tallied l.readers
-    × (Going l.numbers l.ends l.nodes l.first l.count l.until l.turned l.d l.initial.readers l.readers l.yes l.at l.left
-    ⊎ Done l.numbers l.ends l.nodes l.first l.count l.until l.turned l.d l.initial.readers l.readers l.yes)
-
-abbrev pub decreases-check_members-loop-left : goal.decreases-check_members-loop-left
-decreases-check_members-loop-left l = l.left
+    let g = l.generator in
+    Going g.numbers.now g.ends.now g.nodes.now l.first l.count l.until l.turned l.d (readers_of l.initial.readers) (readers_of l.readers) l.yes l.at l.left
+    ⊎ Done g.numbers.now g.ends.now g.nodes.now l.first l.count l.until l.turned l.d (readers_of l.initial.readers) (readers_of l.readers) l.yes

@@ -1,5 +1,4 @@
--- `convert::copy_bytes` meets its contract. The loop's invariant: the first i times eight bits are copied. The measure is how
--- many bytes are left. Assumes nothing.
+-- `convert::copy_bytes` meets its contract. The loop's invariant: the first i times eight bits are copied. Assumes nothing.
 use mathlib.Core.Path.{◌≡◌, refl, sym, ap, ap₂, ◌∙◌, subst}
 use mathlib.Core.List.{List}
 use Prim.Native.Nat.{ℕ, ◌+◌, ◌-◌, ◌*◌, ◌/◌, ◌%◌, ◌^◌}
@@ -15,7 +14,7 @@ pub loop-i-init : goal.loop-i-init
 unfolding copied
 loop-i-init c =
     let args = c.args in
-    (omega arith, refl, sym (put-nil args.to.now (8 * args.first) (λ i. (c.type_inv.to i).fits)))
+    (refl, sym (put-nil args.to.now (8 * args.first) (λ i. (c.type_inv.to i).fits)))
 
 pub loop-i-preserved : goal.loop-i-preserved
 unfolding copied
@@ -33,18 +32,10 @@ loop-i-preserved c =
     ∙ eight from q (λ i. (c.type_inv.from i).fits) (omega arith) in
     let here : 8 * j ≡ 8 * args.first + 8 * l.i = omega arith in
     let more : 8 * l.i + 8 ≡ 8 * (l.i + 1) = omega arith in
-    let bytes : Bytes l.to = subst Bytes (sym l.invariant.2) (put_small to (8 * args.first) (take (8 * l.i) (drop args.at (bits from)))) in (
-      omega arith,
-      length-set l.to j c.middle.result ∙ l.invariant.1,
+    let bytes : Bytes l.to = subst Bytes (sym l.invariant.1) (put_small to (8 * args.first) (take (8 * l.i) (drop args.at (bits from)))) in (
+      length-set l.to j c.middle.result ∙ l.invariant.0,
       copied_byte from l.to q j c.middle.result bytes (omega arith) (omega arith) is
-          ∙ ap₂ (λ (r : List ℕ) (p : ℕ). copied from q r p 8) l.invariant.2 here
+          ∙ ap₂ (λ (r : List ℕ) (p : ℕ). copied from q r p 8) l.invariant.1 here
           ∙ copied_more from to args.at (8 * args.first) (8 * l.i) 8 (omega arith) (omega arith)
           ∙ ap (copied from args.at to (8 * args.first)) more,
     )
-
-pub returns : goal.returns
-returns c =
-    let l = c.loop-i in
-    let args = c.args in
-    let all : l.i ≡ args.n = omega arith in
-    l.invariant.2 ∙ ap (λ (m : ℕ). copied args.from.now args.at args.to.now (8 * args.first) (8 * m)) all

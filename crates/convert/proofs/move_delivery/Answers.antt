@@ -1,157 +1,137 @@
 -- `convert::move_delivery` meets its contract: test by test, in the order of `Delivery.read_in`; what is stored are the pieces
 -- between the positions that the walk found. Assumes nothing.
 use mathlib.Core.Path.{◌≡◌, refl, sym, ap, ap₂, ◌∙◌}
-use mathlib.Core.Bool.{Bool, true, false}
+use mathlib.Core.Bool.{Bool, true}
 use mathlib.Core.List.{List}
 use mathlib.Core.Option.{none}
-use Prim.Native.Nat.{ℕ, ◌+◌, ◌*◌, ◌^◌, ◌≤◌, ◌<◌}
+use Prim.Native.Nat.{ℕ, ◌+◌, ◌-◌, ◌*◌, ◌^◌, ◌≤◌, ◌<◌}
 use native.Mathlib.Omega.{arith}
-use lib.ListN.{length, drop, replicate}
-use Rattle.model.specs.declared.WriteResult.{WriteResult}
-use Rattle.model.specs.Outcome.{Outcome, number_of, accepted, ◌>>=◌, ◌>>◌, require}
+use lib.ListN.{length, take, drop, replicate}
+use Rattle.std.proofs.Common.{Result, Ok, Err}
+use Rattle.std.specs.Result.{IsErrAnd}
+use Rattle.model.specs.Outcome.{Outcome, accepted, ◌>>=◌, ◌>>◌, require}
 use Rattle.model.specs.Lists.{count_holds}
 use Rattle.model.specs.Fields.{bits, only_fill}
 use Rattle.model.specs.Delivery.{read_lists, read_stored}
 use Rattle.model.specs.Calls.{written_refused, written}
 use Rattle.lists.proofs.Spans.{counts}
-use Rattle.fields.specs.Positions.{take_at, field_says}
+use Rattle.fields.specs.Positions.{take_at}
 use Rattle.fields.proofs.Fields.{took}
-use Rattle.walk.specs.declared.Read.{Read}
-use Rattle.walk.specs.Answers.{read_says}
+use Rattle.refusals.specs.declared.Refusal.{Refusal}
+use Rattle.refusals.specs.Numbers.{number, written_as}
 use Rattle.walk.proofs.Whole.{reads_no_number, reads_wrong_number, reads_on}
 use Rattle.convert.specs.Forms.{ListIn, form_of, resized}
-use Rattle.convert.specs.Walks.{found_says, found}
+use Rattle.convert.specs.Walks.{found}
 use Rattle.convert.specs.Pieces.{pieces}
 use Rattle.convert.proofs.Reading.{head-seen}
 use Rattle.convert.proofs.Walks.{Found, was_found, not_found}
 use Rattle.convert.proofs.Whole.{Cut, cut, size-there, size-here, resized-small, refuses, stores}
 use Rattle.convert.proofs.move_delivery.Goals as goal
-use Rattle.convert.proofs.move_delivery.Goals.{After-size_of-size, After-walk_lists-walked, Else-not-count_holds, Else-not-only_fill, In-Value, In-Value-read}
 
--- a refusal handed back
-handed : (lent : List ℕ) {r : WriteResult} {n : ℕ} → r ≡ written_refused n → written r lent ≡ written (written_refused n) lent
-handed lent e = ap (λ (x : WriteResult). written x lent) e
+-- a refusal that goes up by `?` as it came
+handed : (lent : List ℕ) (r : Result ℕ Refusal) (e : Refusal) → IsErrAnd r (λ y. y ≡ e) → written (written_as r) lent ≡ written (written_refused (number e)) lent
+handed lent (Ok n) e h = absurd h
+handed lent (Err y) e h = ap (λ (x : Refusal). written (written_refused (number x)) lent) h
 
 -- ---- the number of lists
 
--- how many lists there are
-number_read : (c : In-Value) → take_at c.args.from.now 6 0 ≡ accepted (c.in-Value.n, 6)
-number_read c =
-    let s : List ℕ = c.args.from.now in
-    let e : take_at s 6 0 ≡ accepted (c.in-Value.n, c.in-Value.next) = sym c.take_field.ensures ∙ ap field_says c.in-Value.is in
-    let six : c.in-Value.next ≡ 6 = omega (arith, (took s 6 0 _ e).next) in
-    e ∙ ap (λ (k : ℕ). accepted (c.in-Value.n, k)) six
+six : (s : List ℕ) {n q : ℕ} → accepted (n, q) ≡ take_at s 6 0 → take_at s 6 0 ≡ accepted (n, 6)
+six s {n} {q} e = let next : q ≡ 6 = omega (arith, (took s 6 0 _ (sym e)).next) in sym e ∙ ap (λ (k : ℕ). accepted (n, k)) next
 
-six_there : (c : In-Value) → 6 ≤ 8 * length c.args.from.now
-six_there c = omega (arith, (took c.args.from.now 6 0 _ (number_read c)).inside)
+-- how many lists there are, where 7 does not apply
+record Headed (s : List ℕ) (n : ℕ) : Type 0 where
+  number : take_at s 6 0 ≡ accepted (n, 6)
+  there : 6 ≤ 8 * length s
+  holds : count_holds n ≡ true
+  few : n ≤ 32
 
-holds : (c : Else-not-count_holds) → count_holds c.in-Value.n ≡ true
-holds c = ap count_holds (sym c.wide-lists.ensures) ∙ sym c.count_holds.ensures ∙ c.if-not-count_holds.false
+headed : {s : List ℕ} {n q : ℕ} → accepted (n, q) ≡ take_at s 6 0 → true ≡ count_holds n → Headed s n
+headed {s} {n} e h = record { number = six s e; there = omega (arith, (took s 6 0 _ (sym e)).inside); holds = sym h; few = (counts n (sym h)).1 }
 
--- as many lists, read
-abbrev lists_read : (c : In-Value) → Outcome (List (ListIn c.args.bit) × ℕ)
-lists_read c = let args = c.args in read_lists (take_at args.from.now) (form_of args.bit) c.in-Value.n none 6
+-- ---- the walk through them
 
--- reading goes on with them
-on : (c : Else-not-count_holds) → let args = c.args in (o : Outcome (List (ListIn args.bit) × ℕ)) → lists_read (record { before = c.before.before.before.before; type_inv = record { to = c.type_inv.to; from = c.type_inv.from } }) ≡ o
-    → read_stored (form_of args.bit) args.from.now ≡ (o >>= λ r. (require 5 (only_fill (drop r.1 (bits args.from.now))) >> accepted r.0))
+module _ (bit : Bool) (s : List ℕ) (n : ℕ) where
+  -- as many lists, read
+  abbrev lists_read : Outcome (List (ListIn bit) × ℕ)
+  lists_read = read_lists (take_at s) (form_of bit) n none 6
+
+  -- reading goes on with them
+  on : Headed s n → (o : Outcome (List (ListIn bit) × ℕ)) → lists_read ≡ o → read_stored (form_of bit) s ≡ (o >>= λ r. (require 5 (only_fill (drop r.1 (bits s))) >> accepted r.0))
+  unfolding read_stored
+  on h o e = reads_on (form_of bit) s (head-seen bit s) none none h.number h.holds refl e
+
+  -- what was found, and the pieces that it cuts the delivery into
+  record Walk (lacking end : ℕ) (row : List ℕ) : Type 0 where
+    was : Found bit (replicate 33 0) 0 6 lists_read lacking end row
+    cuts : Cut bit s n end (take (n + 1) row) was.lists
+
+  walk : {lacking end : ℕ} {row : List ℕ} → Headed s n → accepted (lacking, end, row) ≡ found bit 0 (replicate 33 0) 0 6 lists_read → Walk lacking end row
+  walk h e =
+      let w = was_found bit (replicate 33 0) 0 6 lists_read _ _ _ (sym e) in
+      record { was = w; cuts = cut bit s n _ _ w.lists h.few h.there w.read w.are }
+
+  -- the size in the other form
+  sized : {lacking end : ℕ} {row : List ℕ} {size : ℕ} → Headed s n → Walk lacking end row → size ≡ resized bit end n
+      → let stops = take (n + 1) row in (size ≡ 6 + length (pieces bit (bits s) (length stops - 1) stops)) × (size < 2 ^ 40)
+  sized h w e =
+      let u = w.cuts in
+      (e ∙ ap₂ (resized bit) u.ends (sym u.many) ∙ sym (size-there bit w.was.lists) ∙ ap (λ (l : List Bool). 6 + length l) (sym u.are), rw e (resized-small bit _ _ u.near h.few))
+
+-- ---- goal by goal
+
+pub returns-in_err-n : goal.returns-in_err-n
 unfolding read_stored
-on c o e =
+returns-in_err-n c =
     let args = c.args in
-    reads_on (form_of args.bit) args.from.now (head-seen args.bit args.from.now) none none (number_read (record { before = c.before.before.before.before; type_inv = record { to = c.type_inv.to; from = c.type_inv.from } })) (holds c) refl e
-
--- ---- the walk
-
--- what it says, of as many lists as were read
-heard : (c : After-walk_lists-walked) → let args = c.args in
-    found_says c.walk_lists-walked.result.read c.walk_lists-walked.result.stops
-    ≡ found args.bit 0 (replicate 33 0) 0 6 (lists_read (record { before = c.before.before.before.before.before; type_inv = record { to = c.type_inv.to; from = c.type_inv.from } }))
-heard c =
-    let args = c.args in
-    c.walk_lists-walked.ensures ∙ ap (λ (n : ℕ). found args.bit 0 (replicate 33 0) 0 6 (read_lists (take_at args.from.now) (form_of args.bit) n none 6)) c.wide-lists.ensures
-
-walked : (c : In-Value-read) → let args = c.args in
-    Found args.bit (replicate 33 0) 0 6 (lists_read (record { before = c.before.before.before.before.before.before; type_inv = record { to = c.type_inv.to; from = c.type_inv.from } })) c.in-Value-read.missing c.in-Value-read.end c.walk_lists-walked.result.stops
-walked c =
-    was_found c.args.bit (replicate 33 0) 0 6 (lists_read (record { before = c.before.before.before.before.before.before; type_inv = record { to = c.type_inv.to; from = c.type_inv.from } })) _ _ _ (sym (heard (record { before = c.before.before; type_inv = record { to = c.type_inv.to; from = c.type_inv.from } })) ∙ ap (λ (r : Read). found_says r c.walk_lists-walked.result.stops) c.in-Value-read.is)
-
--- the pieces that it cuts the delivery into
-cut_up : (c : In-Value-read) → let args = c.args in
-    Cut args.bit args.from.now c.in-Value.n c.in-Value-read.end c.walk_lists-walked.result.stops (walked c).lists
-cut_up c =
-    let args = c.args in
-    cut args.bit args.from.now _ _ _ (walked c).lists (counts _ (holds (record { before = c.before.before.before; type_inv = record { to = c.type_inv.to; from = c.type_inv.from } }))).1 (six_there (record { before = c.before.before.before.before.before.before; type_inv = record { to = c.type_inv.to; from = c.type_inv.from } })) (walked c).read (walked c).are
-
--- and 5 does not apply: so it reads
-reads_lists : (c : Else-not-only_fill) → let args = c.args in
-    read_stored (form_of args.bit) args.from.now ≡ accepted (walked (record { before = c.before.before.before; type_inv = record { to = c.type_inv.to; from = c.type_inv.from } })).lists
-reads_lists c =
-    let args = c.args in
-    let fill : only_fill (drop c.in-Value-read.end (bits args.from.now)) ≡ true = sym c.only_fill.ensures ∙ c.if-not-only_fill.false in
-    on (record { before = c.before.before.before.before.before; type_inv = record { to = c.type_inv.to; from = c.type_inv.from } }) _ (walked (record { before = c.before.before.before; type_inv = record { to = c.type_inv.to; from = c.type_inv.from } })).read ∙ rw fill
-
-pub returns-in_default : goal.returns-in_default
-unfolding read_stored
-returns-in_default d =
-    let args = d.args in
-    handed args.to.now d.refused.ensures
-    ∙ refuses args.bit args.from.now args.to.now (reads_no_number (form_of args.bit) args.from.now (head-seen args.bit args.from.now) none none (sym d.take_field.ensures ∙ ap field_says d.in_default.is))
+    handed args.to.now _ _ c.from_residual.ensures.1
+    ∙ refuses args.bit args.from.now args.to.now (reads_no_number (form_of args.bit) args.from.now (head-seen args.bit args.from.now) none none (sym c.in_err-n.ensures))
 
 pub returns-then-not-count_holds : goal.returns-then-not-count_holds
 unfolding read_stored
-returns-then-not-count_holds d =
-    let args = d.args in
-    let wrong = ap count_holds (sym d.wide-lists.ensures) ∙ sym d.count_holds.ensures ∙ d.if-not-count_holds.true in
-    handed args.to.now d.refused-then-not-count_holds.ensures
-    ∙ refuses args.bit args.from.now args.to.now (reads_wrong_number (form_of args.bit) args.from.now (head-seen args.bit args.from.now) none none (number_read (goal.at.returns-then-not-count_holds d).In-Value) wrong)
+returns-then-not-count_holds c =
+    let args = c.args in
+    refuses args.bit args.from.now args.to.now (reads_wrong_number (form_of args.bit) args.from.now (head-seen args.bit args.from.now) none none (six _ c.in_ok-n.ensures) (sym c.if-not-count_holds.ensures))
 
-pub walk_lists-walked-requires : goal.walk_lists-walked-requires
-walk_lists-walked-requires c = (omega (arith, c.wide-lists.ensures, (counts _ (holds c)).1), six_there (goal.at.walk_lists-walked-requires c).In-Value)
+pub walk_lists-requires : goal.walk_lists-requires
+walk_lists-requires c = let h = headed c.in_ok-n.ensures c.if-not-count_holds.ensures in (h.few, h.there)
 
-pub returns-in_default-read : goal.returns-in_default-read
-unfolding number_of
-returns-in_default-read d =
-    let args = d.args in
-    let told = d.in_default-read.is in
-    handed args.to.now d.refused-in_default-read.ensures
-    ∙ ap (λ (n : ℕ). written (written_refused n) args.to.now) (d.number_of.ensures ∙ ap (λ (r : Read). number_of (read_says r)) told)
-    ∙ refuses args.bit args.from.now args.to.now (on (goal.at.returns-in_default-read d).Else-not-count_holds _ (not_found args.bit (replicate 33 0) 0 6 (lists_read (goal.at.returns-in_default-read d).In-Value) _ (sym (heard (goal.at.returns-in_default-read d).After-walk_lists-walked) ∙ ap (λ (r : Read). found_says r d.walk_lists-walked.result.stops) told)))
+pub returns-in_err-walked : goal.returns-in_err-walked
+returns-in_err-walked c =
+    let args = c.args in
+    let h = headed c.in_ok-n.ensures c.if-not-count_holds.ensures in
+    handed args.to.now _ _ c.from_residual-in_err-walked.ensures.1
+    ∙ refuses args.bit args.from.now args.to.now (on _ _ _ h _ (not_found args.bit (replicate 33 0) 0 6 _ _ (sym c.in_err-walked.ensures)))
 
 pub only_fill-requires : goal.only_fill-requires
-only_fill-requires c = let u = cut_up c in (u.inside, omega (arith, u.near))
+only_fill-requires c =
+    let u = (walk _ _ _ (headed c.in_ok-n.ensures c.if-not-count_holds.ensures) c.in_ok-walked.ensures).cuts in
+    (u.inside, omega (arith, u.near))
 
 pub returns-then-not-only_fill : goal.returns-then-not-only_fill
-returns-then-not-only_fill d =
-    let args = d.args in
-    let fill : only_fill (drop d.in-Value-read.end (bits args.from.now)) ≡ false = sym d.only_fill.ensures ∙ d.if-not-only_fill.true in
-    handed args.to.now d.refused-then-not-only_fill.ensures ∙ refuses args.bit args.from.now args.to.now (on (goal.at.returns-then-not-only_fill d).Else-not-count_holds _ (walked (goal.at.returns-then-not-only_fill d).In-Value-read).read ∙ rw fill)
-
--- the size in the other form
-sized : (c : After-size_of-size) → let args = c.args in
-    (c.size_of-size.result ≡ 6 + length (pieces args.bit (bits args.from.now) c.in-Value.n c.walk_lists-walked.result.stops)) × (c.size_of-size.result < 2 ^ 40)
-sized c =
+returns-then-not-only_fill c =
     let args = c.args in
-    let u = cut_up (record { before = c.before.before.before.before.before; type_inv = record { to = c.type_inv.to; from = c.type_inv.from } }) in
-    let n : c.wide-lists.result ≡ length (walked (record { before = c.before.before.before.before.before; type_inv = record { to = c.type_inv.to; from = c.type_inv.from } })).lists = c.wide-lists.ensures ∙ sym u.many in
-    let few = (counts _ (holds (record { before = c.before.before.before.before.before.before.before; type_inv = record { to = c.type_inv.to; from = c.type_inv.from } }))).1 in (
-      c.size_of-size.ensures ∙ ap₂ (λ (a b : ℕ). resized args.bit a b) u.ends n ∙ sym (size-there args.bit (walked (record { before = c.before.before.before.before.before; type_inv = record { to = c.type_inv.to; from = c.type_inv.from } })).lists) ∙ ap (λ (l : List Bool). 6 + length l) (sym u.are),
-      rw c.size_of-size.ensures (resized-small args.bit _ _ u.near (omega (arith, n, u.many))),
-    )
+    let h = headed c.in_ok-n.ensures c.if-not-count_holds.ensures in
+    refuses args.bit args.from.now args.to.now (on _ _ _ h _ (walk _ _ _ h c.in_ok-walked.ensures).was.read ∙ rw (← c.if-not-only_fill.ensures))
 
 pub size_of-size-requires : goal.size_of-size-requires
 size_of-size-requires c =
-    let u = cut_up (goal.at.size_of-size-requires c).In-Value-read in
-    let n = c.wide-lists.ensures in
-    (omega (arith, n, (counts _ (holds (goal.at.size_of-size-requires c).Else-not-count_holds)).1), omega (arith, n, u.many, u.ends, size-here c.args.bit (walked (goal.at.size_of-size-requires c).In-Value-read).lists), omega (arith, u.near))
+    let h = headed c.in_ok-n.ensures c.if-not-count_holds.ensures in
+    let w = walk _ _ _ h c.in_ok-walked.ensures in
+    (h.few, omega (arith, w.cuts.many, w.cuts.ends, size-here c.args.bit w.was.lists), omega (arith, w.cuts.near))
+
+pub shared_ref_as_front-stops : goal.shared_ref_as_front-stops
+shared_ref_as_front-stops c = omega (arith, (headed c.in_ok-n.ensures c.if-not-count_holds.ensures).few)
 
 pub store-requires : goal.store-requires
 store-requires c =
-    let u = cut_up (goal.at.store-requires c).In-Value-read in
-    let size = sized (goal.at.store-requires c).After-size_of-size in
-    ((counts _ (holds (goal.at.store-requires c).Else-not-count_holds)).1, u.long, u.rise, size.0, size.1)
+    let h = headed c.in_ok-n.ensures c.if-not-count_holds.ensures in
+    let w = walk _ _ _ h c.in_ok-walked.ensures in
+    let size = sized _ _ _ h w c.size_of-size.ensures in
+    (omega (arith, w.cuts.long), omega (arith, w.cuts.long, h.few), w.cuts.rise, size.0, size.1)
 
 pub returns : goal.returns
 returns c =
     let args = c.args in
-    let u = cut_up (goal.at.returns c).In-Value-read in
-    c.store.ensures ∙ stores args.bit args.from.now args.to.now (walked (goal.at.returns c).In-Value-read).lists _ (reads_lists (goal.at.returns c).Else-not-only_fill) (walked (goal.at.returns c).In-Value-read).lack u.many u.are
+    let h = headed c.in_ok-n.ensures c.if-not-count_holds.ensures in
+    let w = walk _ _ _ h c.in_ok-walked.ensures in
+    c.store.ensures ∙ stores args.bit args.from.now args.to.now w.was.lists _ (on _ _ _ h _ w.was.read ∙ rw (← c.if-not-only_fill.ensures)) w.was.lack (omega (arith, w.cuts.many, w.cuts.long)) w.cuts.are

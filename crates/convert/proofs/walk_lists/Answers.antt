@@ -1,47 +1,38 @@
 -- `convert::walk_lists` meets its contract. The loop's invariant: what is found of all lists is what was found so far and what is
--- found of those that are left. The measure is how many are left. Assumes nothing.
-use mathlib.Core.Path.{◌≡◌, refl, sym, ap, ap₂, ◌∙◌}
+-- found of those that are left. Assumes nothing.
+use mathlib.Core.Path.{◌≡◌, sym, ap, ap₂, ◌∙◌}
 use mathlib.Core.Option.{none}
 use mathlib.Core.List.{◌∷◌}
 use Prim.Native.Nat.{ℕ, ◌+◌, ◌-◌}
 use native.Mathlib.Omega.{arith}
-use lib.ListN.{set, replicate, length-set}
+use lib.ListN.{set, length-set}
 use Rattle.model.specs.Outcome.{accepted, ◌>>=◌}
 use Rattle.model.specs.Delivery.{read_list, read_lists}
 use Rattle.fields.specs.Positions.{take_at}
-use Rattle.walk.specs.declared.Read.{Read}
-use Rattle.walk.specs.Answers.{read_says}
 use Rattle.walk.proofs.Reading.{Kept, kept, lost}
 use Rattle.walk.proofs.Counting.{lists-none, lists_stop, lists-more}
 use Rattle.convert.specs.Forms.{form_of, lacks}
-use Rattle.convert.specs.Walks.{found_says, found}
+use Rattle.convert.specs.Walks.{found}
 use Rattle.convert.proofs.Reading.{Ends, list_ends}
-use Rattle.convert.proofs.Walks.{lacks-one, found_stop, found-more, found_none}
+use Rattle.convert.proofs.Walks.{lacks-one, walked_up, found_stop, found-more, found_none}
 use Rattle.convert.proofs.walk_lists.Goals as goal
-use Rattle.convert.proofs.walk_lists.Goals.{In-Value}
+use Rattle.convert.proofs.walk_lists.Goals.{In_ok-lacking}
 
 -- the list that was walked through
-list_walked : (c : In-Value) → let args = c.args in
-    Kept (lacks args.bit) (read_list (take_at args.s.now) (form_of args.bit) none c.loop-k.next) c.in-Value.lacking c.in-Value.behind
-list_walked c = kept _ _ _ _ (sym c.walk_list-got.ensures ∙ ap read_says c.in-Value.is)
+list_walked : (c : In_ok-lacking) → let args = c.args in
+    Kept (lacks args.bit) (read_list (take_at args.s.now) (form_of args.bit) none c.loop-k.next) c.in_ok-lacking.lacking c.in_ok-lacking.behind
+list_walked c = kept _ _ _ _ (sym c.in_ok-lacking.ensures)
 
-ends : (c : In-Value) → let args = c.args in
-    Ends args.bit args.s.now c.loop-k.next (list_walked c).got c.in-Value.behind
-ends c = let args = c.args in list_ends args.bit args.s.now c.loop-k.next _ _ c.loop-k.invariant.4 (list_walked c).read
+ends : (c : In_ok-lacking) → let args = c.args in
+    Ends args.bit args.s.now c.loop-k.next (list_walked c).got c.in_ok-lacking.behind
+ends c = let args = c.args in list_ends args.bit args.s.now c.loop-k.next _ _ c.loop-k.invariant.3 (list_walked c).read
 
-pub loop-k-init : goal.loop-k-init
-loop-k-init c =
-    let args = c.args in
-    let all : args.n ≡ args.n - 0 = omega arith in
-    (omega arith, refl, omega arith, omega arith, omega arith, ap (λ (m : ℕ). found args.bit 0 (replicate 33 0) 0 6 (read_lists (take_at args.s.now) (form_of args.bit) m none 6)) all)
-
-pub returns-in_default : goal.returns-in_default
-returns-in_default c =
+pub returns-in_err-lacking : goal.returns-in_err-lacking
+returns-in_err-lacking c =
     let l = c.loop-k in
     let args = c.args in
-    let told = c.in_default.is in
-    ap (λ (r : Read). found_says r (set l.stops l.k l.next)) told
-    ∙ sym (l.invariant.5 ∙ found_stop args.bit l.missing l.stops l.k l.next (lists_stop (form_of args.bit) (take_at args.s.now) (args.n - l.k) none l.next (omega arith) (lost (lacks args.bit) _ _ (sym c.walk_list-got.ensures ∙ ap read_says told))))
+    walked_up _ _ c.from_residual.ensures.1
+    ∙ sym (l.invariant.4 ∙ found_stop args.bit l.missing l.stops l.k l.next (lists_stop (form_of args.bit) (take_at args.s.now) (args.n - l.k) none l.next (omega arith) (lost (lacks args.bit) _ _ (sym c.in_err-lacking.ensures))))
 
 pub overflow_add-missing : goal.overflow_add-missing
 overflow_add-missing c = let k = list_walked c in record { fits = omega (arith, k.is, lacks-one c.args.bit k.got) }
@@ -53,15 +44,14 @@ loop-k-preserved c =
     let form = form_of args.bit in
     let k = list_walked c in
     let e = ends c in
-    let next : ℕ = c.in-Value.behind in
+    let next : ℕ = c.in_ok-lacking.behind in
     let less : args.n - l.k - 1 ≡ args.n - (l.k + 1) = omega arith in
     let rest = read_lists (take_at args.s.now) form (args.n - (l.k + 1)) none next in (
-      omega arith,
-      length-set l.stops l.k l.next ∙ l.invariant.1,
+      length-set l.stops l.k l.next ∙ l.invariant.0,
       omega (arith, k.is, lacks-one args.bit k.got),
       omega (arith, e.near),
       e.inside,
-      l.invariant.5
+      l.invariant.4
           ∙ ap (found args.bit l.missing l.stops l.k l.next) (lists-more form (take_at args.s.now) (args.n - l.k) none l.next (omega arith) k.read)
           ∙ ap (λ (m : ℕ). found args.bit l.missing l.stops l.k l.next (read_lists (take_at args.s.now) form m none next >>= λ t. accepted (k.got ∷ t.0, t.1))) less
           ∙ found-more args.bit l.missing l.stops l.k l.next k.got rest (omega arith)
@@ -73,5 +63,5 @@ returns c =
     let l = c.loop-k in
     let args = c.args in
     let all : l.k ≡ args.n = omega arith in
-    sym (l.invariant.5 ∙ found_none args.bit l.missing l.stops l.k l.next (lists-none (form_of args.bit) (take_at args.s.now) (args.n - l.k) none l.next (omega arith)) (omega arith)
+    sym (l.invariant.4 ∙ found_none args.bit l.missing l.stops l.k l.next (lists-none (form_of args.bit) (take_at args.s.now) (args.n - l.k) none l.next (omega arith)) (omega arith)
     ∙ ap (λ (k : ℕ). accepted (l.missing, l.next, set l.stops k l.next)) all)

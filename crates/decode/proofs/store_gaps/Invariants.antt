@@ -1,5 +1,5 @@
 -- `decode::store_gaps` meets its contract. The loop's invariant, where the numbers read: those that are left read from here,
--- and laying them from here on is laying all of them from the start. The measure is how many are left. Assumes nothing.
+-- and laying them from here on is laying all of them from the start. Assumes nothing.
 use mathlib.Core.Path.{◌≡◌}
 use mathlib.Core.List.{List}
 use Prim.Native.Nat.{ℕ, ◌+◌, ◌-◌, ◌*◌, ◌≤◌}
@@ -18,8 +18,5 @@ pub record Left (s : List ℕ) (w n last p : ℕ) (row : List ℕ) (i : ℕ) (wh
 
 abbrev pub invariant-loop-i : goal.invariant-loop-i
 invariant-loop-i l =
-    (l.i ≤ l.end) × (l.from ≤ l.i) × (l.next + 32 * (l.end - l.i) ≤ l.at + 32 * l.n) × (length l.numbers ≡ length l.initial.numbers)
+    (l.next + 32 * (l.end - l.i) ≤ l.at + 32 * l.n) × (length l.numbers ≡ length l.initial.numbers)
     × ((xs : List ℕ) (q : ℕ) → read_gaps (take_at l.s) l.w l.n l.last l.at ≡ accepted (xs, q) → Left l.s l.w (l.end - l.i) l.number l.next l.numbers l.i (lay l.initial.numbers l.from xs) q)
-
-abbrev pub decreases-loop-i : goal.decreases-loop-i
-decreases-loop-i l = l.end - l.i

@@ -11,18 +11,17 @@ use Rattle.model.proofs.Accepted.{never_accepted, accepted-same, bound}
 use Rattle.fields.specs.Rows.{lay}
 use Rattle.fields.specs.Positions.{take_at}
 use Rattle.walk.specs.Counts.{list_head, read_list}
-use Rattle.walk.specs.Answers.{counted_says}
 use Rattle.walk.proofs.Counting.{list-short, list-more, supply, supply-numbers}
 use Rattle.walk.proofs.Bounds.{Counted, body_next, head_next}
 use Rattle.decode.specs.Stores.{BodyStored}
 use Rattle.decode.proofs.store_list.Goals as goal
-use Rattle.decode.proofs.store_list.Goals.{In-Lists}
+use Rattle.decode.proofs.store_list.Goals.{In-Ok}
 
 -- what was read ahead of the numbers, and its bounds
-head_read : (c : In-Lists) → let args = c.args in list_head (take_at args.s.now) (length args.numbers.now - args.from) args.at ≡ accepted ((c.in-Lists.bits, c.in-Lists.count), c.in-Lists.next)
-head_read c = sym c.read_count.ensures ∙ ap counted_says c.in-Lists.is
+head_read : (c : In-Ok) → let args = c.args in list_head (take_at args.s.now) (length args.numbers.now - args.from) args.at ≡ accepted ((c.in-Ok.list.bits, c.in-Ok.list.count), c.in-Ok.next)
+head_read c = sym c.in-Ok.ensures
 
-near : (c : In-Lists) → let args = c.args in Counted args.s.now (length args.numbers.now - args.from) args.at ((c.in-Lists.bits, c.in-Lists.count), c.in-Lists.next)
+near : (c : In-Ok) → let args = c.args in Counted args.s.now (length args.numbers.now - args.from) args.at ((c.in-Ok.list.bits, c.in-Ok.list.count), c.in-Ok.next)
 near c = let args = c.args in head_next args.s.now (length args.numbers.now - args.from) args.at _ (head_read c)
 
 -- a list whose numbers are stored
@@ -40,18 +39,18 @@ stored s room at bit n p row from after r a q h body e =
 pub returns-in_default : goal.returns-in_default
 returns-in_default c a q e =
     let args = c.args in
-    never_accepted (sym (list-short (take_at args.s.now) (length args.numbers.now - args.from) args.at (sym c.read_count.ensures ∙ ap counted_says c.in_default.is)) ∙ e)
+    never_accepted (sym (list-short (take_at args.s.now) (length args.numbers.now - args.from) args.at (sym c.in_default.ensures)) ∙ e)
 
 pub store_body-behind-requires : goal.store_body-behind-requires
 store_body-behind-requires c =
-    let b = near (goal.at.store_body-behind-requires c).In-Lists in
+    let b = near (goal.at.store_body-behind-requires c).In-Ok in
     (b.few, omega (arith, b.near), omega (arith, b.held))
 
 pub overflow_add-end : goal.overflow_add-end
-overflow_add-end c = omega (arith, c.wide.ensures, (near (goal.at.overflow_add-end c).In-Lists).held)
+overflow_add-end c = omega (arith, (near (goal.at.overflow_add-end c).In-Ok).held)
 
 pub returns : goal.returns
 returns c a q e =
     let args = c.args in
-    let k = stored args.s.now (length args.numbers.now - args.from) args.at c.in-Lists.bits c.in-Lists.count c.in-Lists.next args.numbers.now args.from _ _ a q (head_read (goal.at.returns c).In-Lists) c.store_body-behind.ensures e in
-    (k.0, ap (λ (m : ℕ). args.from + m) c.wide.ensures ∙ k.1, k.2)
+    let k = stored args.s.now (length args.numbers.now - args.from) args.at c.in-Ok.list.bits c.in-Ok.list.count c.in-Ok.next args.numbers.now args.from _ _ a q (head_read (goal.at.returns c).In-Ok) c.store_body-behind.ensures e in
+    k

@@ -1,6 +1,6 @@
 -- `decode::store_lists` meets its contract. The loop's invariant, where the lists read: those that are left read from here, and
 -- laying them and their ends from here on is laying all of them from the start. That they read is required, so positions
--- and ends stay small. The measure is how many are left. Assumes nothing.
+-- and ends stay small. Assumes nothing.
 use mathlib.Core.Path.{◌≡◌, refl, sym, ap, ap₂, ◌∙◌, subst}
 use mathlib.Core.List.{List, [], ◌∷◌}
 use mathlib.Core.Option.{some}
@@ -65,21 +65,20 @@ module _ (s : List ℕ) (n next : ℕ) (numbers : List ℕ) (from : ℕ) (ends :
 
 -- the lists that are required to read
 pre_left : (c : At-loop-k) → let l = c.loop-k in let args = c.args in let pre = c.requires.3 in
-    Left args.s.now (c.wide-lists.result - l.k) l.next l.numbers l.from l.ends l.k (lay args.numbers.now 0 (numbers_of pre.lists)) (lay args.ends.now 0 (ends_of 0 pre.lists)) pre.next
-pre_left c = let pre = c.requires.3 in c.loop-k.invariant.6 pre.lists pre.next pre.read
+    Left args.s.now (c.args.n - l.k) l.next l.numbers l.from l.ends l.k (lay args.numbers.now 0 (numbers_of pre.lists)) (lay args.ends.now 0 (ends_of 0 pre.lists)) pre.next
+pre_left c = let pre = c.requires.3 in c.loop-k.invariant.5 pre.lists pre.next pre.read
 
 -- where the list of this turn has been stored
 this_moved : (c : After-store_list-stored) → let l = c.loop-k in Moved l.next l.numbers l.from c.store_list-stored.new.numbers c.store_list-stored.result
 this_moved c =
     let l = c.loop-k in
-    moved _ _ l.next l.numbers l.from l.ends l.k _ _ _ _ _ (omega arith) l.invariant.1 c.store_list-stored.ensures (pre_left (record { before = c.before.before.before.before; type_inv = record { s = c.type_inv.s } }))
+    moved _ _ l.next l.numbers l.from l.ends l.k _ _ _ _ _ (omega arith) l.invariant.0 c.store_list-stored.ensures (pre_left (record { before = c.before.before.before.before; type_inv = record { s = c.type_inv.s } }))
 
 pub loop-k-init : goal.loop-k-init
 loop-k-init c =
     let args = c.args in
-    let all : c.wide-lists.result - 0 ≡ args.n = omega arith in
+    let all : c.args.n - 0 ≡ args.n = omega arith in
     let room : length args.numbers.now - 0 ≡ length args.numbers.now = omega arith in (
-      omega arith,
       omega arith,
       omega arith,
       omega arith,
@@ -95,20 +94,19 @@ pub loop-k-preserved : goal.loop-k-preserved
 loop-k-preserved c =
     let l = c.loop-k in
     let args = c.args in
-    let lists : ℕ = c.wide-lists.result in
+    let lists : ℕ = c.args.n in
     let m = this_moved (goal.at.loop-k-preserved c).After-store_list-stored in
     let r = c.store_list-stored.result in
     let after : List ℕ = c.store_list-stored.new.numbers in
     let less : lists - l.k - 1 ≡ lists - (l.k + 1) = omega arith in (
-      omega arith,
       omega (arith, m.inside, m.long),
       omega (arith, m.few),
       omega (arith, m.near),
-      m.long ∙ l.invariant.4,
-      length-set l.ends l.k _ ∙ l.invariant.5,
+      m.long ∙ l.invariant.3,
+      length-set l.ends l.k _ ∙ l.invariant.4,
       λ ss q e.
           subst (λ (n : ℕ). Left args.s.now n r.next after r.end (set l.ends l.k r.end) (l.k + 1) (lay args.numbers.now 0 (numbers_of ss)) (lay args.ends.now 0 (ends_of 0 ss)) q) less
-          (turn args.s.now (lists - l.k) l.next l.numbers l.from l.ends l.k _ _ q after r (omega arith) l.invariant.1 c.store_list-stored.ensures (l.invariant.6 ss q e) (omega arith)),
+          (turn args.s.now (lists - l.k) l.next l.numbers l.from l.ends l.k _ _ q after r (omega arith) l.invariant.0 c.store_list-stored.ensures (l.invariant.5 ss q e) (omega arith)),
     )
 
 pub returns : goal.returns
@@ -116,7 +114,7 @@ unfolding all_numbers ends_from
 returns c ss q e =
     let l = c.loop-k in
     let args = c.args in
-    let left = l.invariant.6 ss q e in
+    let left = l.invariant.5 ss q e in
     let none : ◌≡◌ {A = List Supplied × ℕ} ([], l.next) (left.rest, q) =
     accepted-same (sym (lists-none by_bit (take_at args.s.now) _ _ l.next (omega arith)) ∙ left.read) in
     let empty : left.rest ≡ [] = sym (ap (λ (r : List Supplied × ℕ). r.0) none) in (

@@ -1,6 +1,6 @@
 -- `decode::store_lists` meets its contract. The loop's invariant, where the lists read: those that are left read from here, and
 -- laying them and their ends from here on is laying all of them from the start. That they read is required, so positions
--- and ends stay small. The measure is how many are left. Assumes nothing.
+-- and ends stay small. Assumes nothing.
 use mathlib.Core.Path.{◌≡◌}
 use mathlib.Core.List.{List, map}
 use Prim.Native.Nat.{ℕ, ◌+◌, ◌-◌, ◌*◌, ◌≤◌}
@@ -30,9 +30,6 @@ pub record Left (s : List ℕ) (n next : ℕ) (numbers : List ℕ) (from : ℕ) 
 
 abbrev pub invariant-loop-k : goal.invariant-loop-k
 invariant-loop-k l =
-    (l.k ≤ l.lists) × (l.from ≤ length l.numbers) × (l.from ≤ 65535 * l.k) × (l.next + 4194304 * (l.lists - l.k) ≤ 6 + 4194304 * l.lists) × (length l.numbers ≡ length l.initial.numbers) × (length l.ends ≡ length l.initial.ends)
+    (l.from ≤ length l.numbers) × (l.from ≤ 65535 * l.k) × (l.next + 4194304 * (l.lists - l.k) ≤ 6 + 4194304 * l.lists) × (length l.numbers ≡ length l.initial.numbers) × (length l.ends ≡ length l.initial.ends)
     × ((ss : List Supplied) (q : ℕ) → read_lists (take_at l.s) l.n (length l.initial.numbers) l.at ≡ accepted (ss, q)
     → Left l.s (l.lists - l.k) l.next l.numbers l.from l.ends l.k (lay l.initial.numbers 0 (numbers_of ss)) (lay l.initial.ends 0 (ends_of 0 ss)) q)
-
-abbrev pub decreases-loop-k : goal.decreases-loop-k
-decreases-loop-k l = l.lists - l.k

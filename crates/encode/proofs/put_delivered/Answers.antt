@@ -16,28 +16,22 @@ use Rattle.fields.proofs.Puts.{put_two}
 use Rattle.encode.specs.Measures.{list_bits, gap_width}
 use Rattle.encode.proofs.Sizes.{Wide, gap_width_wide, bits_none, bits-one, bits-more, list_size-is, size_any, size-some, from_first, largest-first}
 use Rattle.encode.proofs.put_delivered.Goals as goal
-use Rattle.encode.proofs.put_delivered.Goals.{After-put_field, After-put_field-2, Start}
+use Rattle.encode.proofs.put_delivered.Goals.{After-put_field, After-put_field-2}
 
 -- what is required, as it is used
-sized : (c : Start) → let l = c.args.list.now in length (list_bits (came l)) ≡ list_size 17 (length l) c.args.w
-sized c = list_size-is c.args.list.now ∙ ap (list_size 17 (length c.args.list.now)) (sym c.requires.wide)
+sized : (l : List ℕ) {w : ℕ} → w ≡ gap_width l → length (list_bits (came l)) ≡ list_size 17 (length l) w
+sized l wide = list_size-is l ∙ ap (list_size 17 (length l)) (sym wide)
 
 wide : (c : After-put_field) → Wide (largest c.args.list.now) c.args.w
 wide c =
     subst (Wide (largest c.args.list.now)) (sym c.requires.wide) (gap_width_wide c.args.list.now (λ i. (c.type_inv.list i).fits))
 
--- the row up to behind the count, and up to behind the first number
-counted : (c : After-put_field) → let args = c.args in c.put_field.new.s ≡ put_bits args.s.now args.at (field 17 (65536 + length args.list.now))
-counted c = let args = c.args in c.put_field.ensures ∙ ap (λ (n : ℕ). put_bits args.s.now args.at (field 17 n)) c.narrow.ensures
-
+-- the row up to behind the first number
 begun : (c : After-put_field-2) → let args = c.args in
     c.put_field-2.new.s ≡ put_bits args.s.now args.at (field 17 (65536 + length args.list.now) ++ field 32 (get_or args.list.now 0 0))
 begun c =
     let args = c.args in
-    put_two args.s.now args.at 17 (field 17 (65536 + length args.list.now)) _ (field-length 17 (65536 + length args.list.now)) (omega (arith, sized c.before.before.before.before.before.before.before.before.before.before.before.before, size_any (length args.list.now) args.w, c.requires.room)) (counted (record { before = c.before.before.before.before.before.before.before; type_inv = record { list = c.type_inv.list } })) c.put_field-2.ensures
-
-pub narrow-requires : goal.narrow-requires
-narrow-requires c = omega (arith, c.requires.few)
+    put_two args.s.now args.at 17 (field 17 (65536 + length args.list.now)) _ (field-length 17 (65536 + length args.list.now)) (omega (arith, sized args.list.now c.requires.wide, size_any (length args.list.now) args.w, c.requires.room)) c.put_field.ensures c.put_field-2.ensures
 
 -- a list of two or more
 many : (c : After-put_field-2) → (length c.args.list.now ≡ 1 → ⊥) → 2 ≤ length c.args.list.now
@@ -46,20 +40,20 @@ many c h = omega (arith, c.if-list-eq0.false)
 pub put_field-requires : goal.put_field-requires
 put_field-requires c =
     let args = c.args in
-    (omega arith, omega (arith, c.narrow.ensures, c.requires.few), omega (arith, sized (goal.at.put_field-requires c).Start, size_any (length args.list.now) args.w, c.requires.room))
+    (omega arith, omega (arith, c.requires.few), omega (arith, sized args.list.now c.requires.wide, size_any (length args.list.now) args.w, c.requires.room))
 
 pub returns-then-list-eq0 : goal.returns-then-list-eq0
 returns-then-list-eq0 c =
     let args = c.args in
     let none = bits_none args.list.now c.if-list-eq0.true in
-    (omega (arith, ap length none, field-length 17 (65536 + length args.list.now)), counted (goal.at.returns-then-list-eq0 c).After-put_field ∙ ap (put_bits args.s.now args.at) (sym none))
+    (omega (arith, ap length none, field-length 17 (65536 + length args.list.now)), c.put_field.ensures ∙ ap (put_bits args.s.now args.at) (sym none))
 
 pub put_field-requires-2 : goal.put_field-requires-2
 put_field-requires-2 c =
     let args = c.args in (
       omega arith,
       (c.type_inv.list 0).fits,
-      omega (arith, sized (goal.at.put_field-requires-2 c).Start, size-some (length args.list.now) args.w (omega (arith, c.if-list-eq0.false)), c.requires.room, c.put_field.auto.s),
+      omega (arith, sized args.list.now c.requires.wide, size-some (length args.list.now) args.w (omega (arith, c.if-list-eq0.false)), c.requires.room, c.put_field.auto.s),
     )
 
 pub returns-then-list-eq1 : goal.returns-then-list-eq1
@@ -73,16 +67,16 @@ returns-then-list-eq1 c =
 pub overflow_sub-w : goal.overflow_sub-w
 overflow_sub-w c = omega (arith, (wide (goal.at.overflow_sub-w c).After-put_field).one)
 
-pub narrow-requires-2 : goal.narrow-requires-2
-narrow-requires-2 c = omega (arith, (wide (goal.at.narrow-requires-2 c).After-put_field).most)
+pub overflow_cast-w : goal.overflow_cast-w
+overflow_cast-w c = omega (arith, (wide (goal.at.overflow_cast-w c).After-put_field).most)
 
 pub put_field-requires-3 : goal.put_field-requires-3
 put_field-requires-3 c =
     let args = c.args in
     let w = wide (goal.at.put_field-requires-3 c).After-put_field in (
       omega arith,
-      omega (arith, c.narrow-2.ensures, w.one, w.most),
-      omega (arith, sized (goal.at.put_field-requires-3 c).Start, size-more 17 (length args.list.now) args.w (many (goal.at.put_field-requires-3 c).After-put_field-2 c.if-list-eq1.false), c.requires.room, c.put_field.auto.s, c.put_field-2.auto.s),
+      omega (arith, w.one, w.most),
+      omega (arith, sized args.list.now c.requires.wide, size-more 17 (length args.list.now) args.w (many (goal.at.put_field-requires-3 c).After-put_field-2 c.if-list-eq1.false), c.requires.room, c.put_field.auto.s, c.put_field-2.auto.s),
     )
 
 pub put_gaps-requires : goal.put_gaps-requires
@@ -95,7 +89,7 @@ put_gaps-requires c =
       few = c.requires.few;
       most = w.most;
       low = omega (arith, c.requires.low);
-      room = omega (arith, sized (goal.at.put_gaps-requires c).Start, size-more 17 (length args.list.now) args.w more, c.requires.room, c.put_field.auto.s, c.put_field-2.auto.s, c.put_field-3.auto.s);
+      room = omega (arith, sized args.list.now c.requires.wide, size-more 17 (length args.list.now) args.w more, c.requires.room, c.put_field.auto.s, c.put_field-2.auto.s, c.put_field-3.auto.s);
       rise = from_first args.list.now (omega arith) c.requires.ascends;
       hold = subst (λ (m : ℕ). m < 2 ^ args.w) (largest-first args.list.now (omega arith)) w.holds;
     }
@@ -111,10 +105,10 @@ returns c =
     let less : List Bool = field 5 (gap_width l - 1) in
     let gaps : List Bool = gap_bits (gap_width l) (get_or l 0 0) (drop 1 l) in
     let tail : c.put_field-3.new.s ≡ put_bits args.s.now args.at (head ++ less) =
-    put_two args.s.now args.at 49 head less long (omega (arith, sized (goal.at.returns c).Start, c.requires.room)) (begun (goal.at.returns c).After-put_field-2)
-    (c.put_field-3.ensures ∙ ap (λ (n : ℕ). put_bits c.put_field-2.new.s (args.at + 49) (field 5 n)) (c.narrow-2.ensures ∙ ap (λ (n : ℕ). n - 1) c.requires.wide)) in (
-      c.put_gaps.ensures.0 ∙ omega (arith, sized (goal.at.returns c).Start),
-      put_two args.s.now args.at 54 (head ++ less) gaps (omega (arith, length-append head less, field-length 5 (gap_width l - 1))) (omega (arith, sized (goal.at.returns c).Start, c.requires.room)) tail
+    put_two args.s.now args.at 49 head less long (omega (arith, sized args.list.now c.requires.wide, c.requires.room)) (begun (goal.at.returns c).After-put_field-2)
+    (c.put_field-3.ensures ∙ ap (λ (n : ℕ). put_bits c.put_field-2.new.s (args.at + 49) (field 5 n)) (ap (λ (n : ℕ). n - 1) c.requires.wide)) in (
+      c.put_gaps.ensures.0 ∙ omega (arith, sized args.list.now c.requires.wide),
+      put_two args.s.now args.at 54 (head ++ less) gaps (omega (arith, length-append head less, field-length 5 (gap_width l - 1))) (omega (arith, sized args.list.now c.requires.wide, c.requires.room)) tail
           (c.put_gaps.ensures.1 ∙ ap (λ (n : ℕ). put_bits c.put_field-3.new.s (args.at + 54) (gap_bits n (get_or l 0 0) (drop 1 l))) c.requires.wide)
           ∙ ap (put_bits args.s.now args.at)
           (append_assoc head less gaps ∙ append_assoc (field 17 (65536 + length l)) (field 32 (get_or l 0 0)) (less ++ gaps) ∙ sym (bits-more l more c.requires.few)),

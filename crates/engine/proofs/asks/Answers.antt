@@ -4,7 +4,7 @@ use borrow.Author.Tests.{eq-eqb, ne_eqb}
 use Rattle.engine.proofs.asks.Goals as goal
 
 pub returns-then-code-eq3 : goal.returns-then-code-eq3
-returns-then-code-eq3 c = rw (eq-eqb c.args.code 3 (omega arith), c.wide.ensures)
+returns-then-code-eq3 c = rw (eq-eqb c.args.code 3 (omega arith), c.from.ensures)
 
 pub returns-else-code-eq3 : goal.returns-else-code-eq3
 returns-else-code-eq3 c = rw (ne_eqb c.args.code 3 (λ e. omega arith))

@@ -11,6 +11,6 @@ returns c =
     let s = c.seek-a in
     let rs = readers_of s.result.readers in
     rw (c.drawn_floor.ensures rs, c.drawn_reply-reply.ensures rs) (record {
-      floor_le_top_2 = (floor-low s.result.answer rs, s.ensures.sound.tallied);
+      floor_le_top_2 = floor-low s.result.answer rs;
       steps_to = λ t h. draws s.result.answer rs ∙ ap drawn (s.ensures.finds t h);
     })

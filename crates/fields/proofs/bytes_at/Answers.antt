@@ -1,15 +1,14 @@
--- `fields::bytes_at` meets its contract. The loop's invariant: x is the number that the bits of the first i bytes write, so
--- it has at most 8 * i of the 40 bits. The measure is the bytes left. Assumes nothing.
+-- `fields::bytes_at` meets its contract. The loop's invariant: x is the number that the bytes so far write, so it has at most 8
+-- bits for each of them.
 use mathlib.Core.Path.{◌≡◌, refl, sym, ap, ◌∙◌}
-use mathlib.Core.List.{List, [], ◌∷◌, ◌++◌}
-use Prim.Native.Nat.{ℕ, ◌+◌, ◌*◌, ◌^◌, ◌≤◌, ◌<◌}
+use mathlib.Core.List.{List}
+use Prim.Native.Nat.{ℕ, ◌+◌, ◌-◌, ◌*◌, ◌^◌, ◌≤◌, ◌<◌}
 use native.Mathlib.Nat.{lt_of_lt_of_le}
 use native.Mathlib.Numerals.{add-one}
 use native.Mathlib.Omega.{arith}
 use lib.Pow.{pow_mono}
-use lib.ListN.{length, get_or, take, drop, length-take, length-drop}
-use lib.Seq.{take-suc, get_or-drop}
-use borrow.Author.Rules.{rules}
+use lib.ListN.{length, get_or, take, drop, length-take}
+use lib.Seq.{take-suc, take_all}
 use Rattle.model.specs.Fields.{bits, value}
 use Rattle.model.proofs.Accepted.{value-lt}
 use Rattle.model.proofs.Bits.{bits-length}
@@ -23,34 +22,30 @@ few l i h =
     lt_of_lt_of_le (value-lt (bits (take i l))) (pow_mono len)
 
 -- one byte more
-turn : (s : List ℕ) (first i b : ℕ) {x : ℕ} → first + i < length s → b ≡ get_or s (first + i) 0 → b < 256 → x ≡ value (bits (take i (drop first s)))
-    → x * 256 + b ≡ value (bits (take (i + 1) (drop first s)))
-turn s first i b h eb small ex =
-    let l : List ℕ = drop first s in
-    let next : take (i + 1) l ≡ take i l ++ (b ∷ []) =
-    ap (λ (n : ℕ). take n l) (add-one i) ∙ take-suc l i 0 (omega (arith, length-drop first s)) ∙ ap (λ (y : ℕ). take i l ++ (y ∷ [])) (get_or-drop first s i 0 ∙ sym eb) in
-    ap (λ (y : ℕ). y * 256 + b) ex ∙ sym (value-more (take i l) b small) ∙ ap (λ (y : List ℕ). value (bits y)) (sym next)
+turn : (l : List ℕ) (i : ℕ) {x : ℕ} → i < length l → get_or l i 0 < 256 → x ≡ value (bits (take i l)) → x * 256 + get_or l i 0 ≡ value (bits (take (i + 1) l))
+turn l i h small ex =
+    ap (λ (y : ℕ). y * 256 + get_or l i 0) ex ∙ sym (value-more (take i l) (get_or l i 0) small)
+    ∙ ap (λ (y : List ℕ). value (bits y)) (sym (ap (λ (n : ℕ). take n l) (add-one i) ∙ take-suc l i 0 h))
 
-pub loop-i-init : goal.loop-i-init
+pub loop-b-init : goal.loop-b-init
 unfolding bits value
-loop-i-init c = (search rules, refl)
+loop-b-init c = refl
 
 pub join-x-requires : goal.join-x-requires
 join-x-requires c =
-    let l = c.loop-i in
-    let args = c.args in
-    let byte : c.wide.result < 256 = rw c.wide.ensures (c.shared_slice_known-in-loop-i-1.given (args.first + l.i)).fits in
-    (omega arith, omega (arith, l.invariant.1, few (drop args.first args.s.now) l.i (omega arith)), byte)
+    let l = take (c.args.first + c.args.n - c.args.first) (drop c.args.first c.args.s.now) in
+    let short = length-take (c.args.first + c.args.n - c.args.first) (drop c.args.first c.args.s.now) in
+    let x = few l c.loop-b.b-index (omega arith) in
+    let same : c.loop-b.x ≡ value (bits (take c.loop-b.b-index l)) = c.loop-b.invariant in
+    (omega arith, omega arith, omega arith)
 
-pub loop-i-preserved : goal.loop-i-preserved
-loop-i-preserved c =
-    let l = c.loop-i in
-    let args = c.args in
-    let byte : c.wide.result < 256 = rw c.wide.ensures (c.shared_slice_known-in-loop-i-1.given (args.first + l.i)).fits in
-    (omega arith, c.join-x.ensures ∙ turn args.s.now args.first l.i c.wide.result (omega arith) c.wide.ensures byte l.invariant.1)
+pub loop-b-preserved : goal.loop-b-preserved
+loop-b-preserved c =
+    let l = take (c.args.first + c.args.n - c.args.first) (drop c.args.first c.args.s.now) in
+    c.join-x.ensures ∙ turn l c.loop-b.b-index c.loop-b-test.true (omega arith) c.loop-b.invariant
 
 pub returns : goal.returns
 returns c =
-    let args = c.args in
-    let all : c.loop-i.i ≡ args.n = omega arith in
-    c.loop-i.invariant.1 ∙ ap (λ (n : ℕ). value (bits (take n (drop args.first args.s.now)))) all
+    let l = take (c.args.first + c.args.n - c.args.first) (drop c.args.first c.args.s.now) in
+    let all : c.args.first + c.args.n - c.args.first ≡ c.args.n = omega arith in
+    c.loop-b.invariant ∙ ap (λ (y : List ℕ). value (bits y)) (take_all c.loop-b.b-index l (omega arith)) ∙ ap (λ (n : ℕ). value (bits (take n (drop c.args.first c.args.s.now)))) all

@@ -1,5 +1,5 @@
 -- `fields::put_bytes` meets its contract. The loop's invariant, said backwards: what is to be put from the start is what is
--- still to be put from here on, so a turn is one store (`put-turn`). The measure is the bytes left. Assumes nothing.
+-- still to be put from here on, so a turn is one store (`put-turn`). Assumes nothing.
 use mathlib.Core.Path.{◌≡◌, refl, sym, ap, ap₂, ◌∙◌}
 use Prim.Native.Nat.{ℕ, suc, ◌+◌, ◌-◌, ◌*◌, ◌/◌, ◌%◌, ◌^◌, ◌<◌}
 use native.Mathlib.Nat.{mod-lt, zero-lt-suc}

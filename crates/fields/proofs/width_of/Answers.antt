@@ -2,7 +2,7 @@
 -- holds m, and two least widths are equal. Assumes nothing.
 use mathlib.Core.Path.{◌≡◌}
 use Prim.Native.Nat.{ℕ, suc, ◌+◌, ◌-◌, ◌*◌, ◌^◌, ◌≤◌, ◌<◌}
-use native.Mathlib.Nat.{pow-suc}
+use native.Mathlib.Nat.{pow-suc, lt_of_lt_of_le}
 use native.Mathlib.Decide.{dec_le}
 use native.Mathlib.Omega.{arith}
 use lib.Pow.{pow_mono}
@@ -28,19 +28,12 @@ least m n k le lt = elim (dec_le n k) [ yes h ↦ h | no h ↦ absurd (bad h) ]
 same : (m n : ℕ) → m < top → LeastWidth m n → n ≡ width m
 same m n h w = let v = width_is m h in omega (arith, w.least (width m) v.one v.holds, v.least n w.one w.holds)
 
-pub overflow_sub-n : goal.overflow_sub-n
-overflow_sub-n c = leading_le 32 c.args.m
+pub overflow_sub-m : goal.overflow_sub-m
+overflow_sub-m c = leading_le 32 c.args.m
 
-pub returns-then-n-eq0 : goal.returns-then-n-eq0
-returns-then-n-eq0 c =
+pub returns : goal.returns
+returns c =
     let m : ℕ = c.args.m in
     let l = len m c.ranges.m.fits in
-    let none : 32 - count_leading_zeros 32 m ≡ 0 = c.if-n-eq0.true in
-    let zero : m < 2 ^ 0 = rw none at l.0 in
-    same m 1 c.ranges.m.fits (record { one = omega arith; holds = omega arith; least = λ k h _. h })
-
-pub returns-else-n-eq0 : goal.returns-else-n-eq0
-returns-else-n-eq0 c =
-    let m : ℕ = c.args.m in
-    let l = len m c.ranges.m.fits in
-    same m (32 - count_leading_zeros 32 m) c.ranges.m.fits (record { one = omega arith; holds = l.0; least = λ k _ h. least m _ k l.1 h })
+    let n : ℕ = 32 - count_leading_zeros 32 m in
+    same m c.max.result c.ranges.m.fits (record { one = omega arith; holds = lt_of_lt_of_le l.0 (pow_mono (omega arith)); least = λ k one h. omega (arith, least m n k l.1 h) })

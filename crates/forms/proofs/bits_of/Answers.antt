@@ -31,46 +31,40 @@ packs_operator : (b kind n : ℕ) (node : Node) → packed_node node ≡ field 2
 unfolding said_bits
 packs_operator b kind n node packed e few four = packs b 5 (kind * 8 + (n - 1)) e (packed ∙ sym (field-join 2 3 kind (n - 1) few)) (omega arith)
 
-pub returns-in_default : goal.returns-in_default
+pub returns-in-Err : goal.returns-in-Err
 unfolding said_bits field
-returns-in_default c = packs c.args.b 0 0 (sym c.in_default.ensures) refl (omega arith)
+returns-in-Err c = packs c.args.b 0 0 (sym c.in-Err.ensures) refl (omega arith)
 
+-- a member count is 1 to 8
 pub overflow_sub-result : goal.overflow_sub-result
-overflow_sub-result c = omega (arith, c.wide-in-Union.ensures, (said_writable _ (Union c.in-Union.n) (sym c.in-Known.ensures ∙ ap accepted c.in-Union.is)).0)
+overflow_sub-result c = omega (arith, (said_writable _ (Union c.in-Ok-Union.n) (sym (rw c.in-Ok-Union.field-0-is at c.in-Ok-Union.ensures))).0)
 
-pub overflow_add-result : goal.overflow_add-result
-overflow_add-result c = omega (arith, c.wide-in-Union.ensures, (said_writable _ (Union c.in-Union.n) (sym c.in-Known.ensures ∙ ap accepted c.in-Union.is)).1)
+pub overflow_sub-result-in-Ok-Intersection : goal.overflow_sub-result-in-Ok-Intersection
+overflow_sub-result-in-Ok-Intersection c =
+    omega (arith, (said_writable _ (Intersection c.in-Ok-Intersection.n) (sym (rw c.in-Ok-Intersection.field-0-is at c.in-Ok-Intersection.ensures))).0)
 
-pub overflow_sub-result-in-Intersection : goal.overflow_sub-result-in-Intersection
-overflow_sub-result-in-Intersection c =
-    omega (arith, c.wide-in-Intersection.ensures, (said_writable _ (Intersection c.in-Intersection.n) (sym c.in-Known.ensures ∙ ap accepted c.in-Intersection.is)).0)
-
-pub overflow_add-result-in-Intersection : goal.overflow_add-result-in-Intersection
-overflow_add-result-in-Intersection c =
-    omega (arith, c.wide-in-Intersection.ensures, (said_writable _ (Intersection c.in-Intersection.n) (sym c.in-Known.ensures ∙ ap accepted c.in-Intersection.is)).1)
-
-pub returns-in-Leaf : goal.returns-in-Leaf
+pub returns-in-Ok-Leaf : goal.returns-in-Ok-Leaf
 unfolding said_bits packed_node
-returns-in-Leaf c =
-    let k : ℕ = c.in-Leaf.k in
-    let named : node_of c.args.b ≡ accepted (Leaf k) = sym c.in-Known.ensures ∙ ap accepted c.in-Leaf.is in
+returns-in-Ok-Leaf c =
+    let k : ℕ = c.in-Ok-Leaf.k in
+    let named : node_of c.args.b ≡ accepted (Leaf k) = sym (rw c.in-Ok-Leaf.field-0-is at c.in-Ok-Leaf.ensures) in
     let small = said_writable _ (Leaf k) named in
-    rw c.wide.ensures (packs _ 7 k named (sym (field-join 2 5 0 k small) ∙ ap (field 7) (omega arith)) (omega (arith, small)))
+    packs _ 7 k named (sym (field-join 2 5 0 k small) ∙ ap (field 7) (omega arith)) (omega (arith, small))
 
-pub returns-in-Difference : goal.returns-in-Difference
+pub returns-in-Ok-Difference : goal.returns-in-Ok-Difference
 unfolding said_bits packed_node
-returns-in-Difference c = packs _ 2 1 (sym c.in-Known.ensures ∙ ap accepted c.in-Difference.is) refl (omega arith)
+returns-in-Ok-Difference c = packs _ 2 1 (sym (rw c.in-Ok-Difference.field-0-is at c.in-Ok-Difference.ensures)) refl (omega arith)
 
-pub returns-in-Union : goal.returns-in-Union
+pub returns-in-Ok-Union : goal.returns-in-Ok-Union
 unfolding packed_node
-returns-in-Union c =
-    let k : ℕ = c.in-Union.n in
-    let named : node_of c.args.b ≡ accepted (Union k) = sym c.in-Known.ensures ∙ ap accepted c.in-Union.is in
-    rw c.wide-in-Union.ensures (packs_operator _ 2 k (Union k) refl named (omega (arith, (said_writable _ (Union k) named).1)) (omega arith))
+returns-in-Ok-Union c =
+    let k : ℕ = c.in-Ok-Union.n in
+    let named : node_of c.args.b ≡ accepted (Union k) = sym (rw c.in-Ok-Union.field-0-is at c.in-Ok-Union.ensures) in
+    packs_operator _ 2 k (Union k) refl named (omega (arith, (said_writable _ (Union k) named).1)) (omega arith)
 
-pub returns-in-Intersection : goal.returns-in-Intersection
+pub returns-in-Ok-Intersection : goal.returns-in-Ok-Intersection
 unfolding packed_node
-returns-in-Intersection c =
-    let k : ℕ = c.in-Intersection.n in
-    let named : node_of c.args.b ≡ accepted (Intersection k) = sym c.in-Known.ensures ∙ ap accepted c.in-Intersection.is in
-    rw c.wide-in-Intersection.ensures (packs_operator _ 3 k (Intersection k) refl named (omega (arith, (said_writable _ (Intersection k) named).1)) (omega arith))
+returns-in-Ok-Intersection c =
+    let k : ℕ = c.in-Ok-Intersection.n in
+    let named : node_of c.args.b ≡ accepted (Intersection k) = sym (rw c.in-Ok-Intersection.field-0-is at c.in-Ok-Intersection.ensures) in
+    packs_operator _ 3 k (Intersection k) refl named (omega (arith, (said_writable _ (Intersection k) named).1)) (omega arith)

@@ -1,5 +1,5 @@
--- `cut_ends` meets its contract. The loop's invariant: laying the ends that are left from here on is laying all of them. The measure is
--- how many are left. Assumes nothing.
+-- `cut_ends` meets its contract. The loop's invariant: laying the ends that are left from here on is laying all of them. Assumes
+-- nothing.
 use mathlib.Core.Path.{◌≡◌, refl, ap, ◌∙◌}
 use mathlib.Core.Bool.{Bool, true, false}
 use mathlib.Core.List.{List, []}
@@ -16,10 +16,10 @@ use Rattle.fields.specs.Rows.{lay}
 use Rattle.kept.specs.Kept.{as_change, truth_number}
 use Rattle.kept.proofs.Cuts.{cuts, cut_step, cut-end}
 use Rattle.kept.proofs.cut_ends.Goals as goal
-use Rattle.kept.proofs.cut_ends.Goals.{After-as_number-stop, Start}
+use Rattle.kept.proofs.cut_ends.Goals.{After-from-stop, Start}
 
-one_or_none : (c : After-as_number-stop) → c.as_number-stop.result ≤ 1
-one_or_none c = rw c.as_number-stop.ensures (go c.will_hold.result)
+one_or_none : (c : After-from-stop) → c.from-stop.result ≤ 1
+one_or_none c = rw c.from-stop.ensures (go c.will_hold.result)
   where
     go : (b : Bool) → truth_number b ≤ 1
     go true = omega arith
@@ -43,10 +43,10 @@ loop-k-preserved c =
     let l = c.loop-k in
     let args = c.args in
     let ms : List (List ℕ) = new_lists (as_change args.list args.number args.adds) (lists_from args.numbers.now 0 args.ends.now) in
-    let here : c.as_number-stop.result ≡ truth_number (among args.number (get_or ms l.k [])) = c.as_number-stop.ensures ∙ ap truth_number c.will_hold.ensures in (
+    let here : c.from-stop.result ≡ truth_number (among args.number (get_or ms l.k [])) = c.from-stop.ensures ∙ ap truth_number c.will_hold.ensures in (
       omega arith,
       omega (arith, l.invariant.1, one_or_none c),
-      length-set l.stops l.k (l.stop + c.as_number-stop.result) ∙ l.invariant.2,
+      length-set l.stops l.k (l.stop + c.from-stop.result) ∙ l.invariant.2,
       ap (λ (n : ℕ). lay (set l.stops l.k (l.stop + n)) (l.k + 1) (ends_from (l.stop + n) (drop (l.k + 1) (cuts args.number ms)))) here
           ∙ cut_step args.number ms l.stops l.stop l.k (omega (arith, many (goal.at.loop-k-preserved c).Start)) (omega (arith, l.invariant.2, c.requires.1)) ∙ l.invariant.3,
     )

@@ -1,9 +1,10 @@
 -- `find_in` meets its contract: list k is the run of numbers that is searched. Assumes nothing.
-use mathlib.Core.Path.{ap, ap₂, ◌∙◌}
-use mathlib.Core.List.{List, []}
-use Prim.Native.Nat.{ℕ, ◌+◌, ◌≤◌}
+use mathlib.Core.Path.{◌≡◌, ap, ap₂, ◌∙◌}
+use mathlib.Core.Bool.{Bool, true, false}
+use mathlib.Core.List.{List, [], ◌∷◌}
+use Prim.Native.Nat.{ℕ, ◌+◌, ◌-◌, ◌≤◌}
 use native.Mathlib.Omega.{arith}
-use lib.ListN.{length, get_or}
+use lib.ListN.{length, get_or, take, drop}
 use Rattle.model.specs.Lists.{ascending, lists_from}
 use Rattle.model.specs.Sets.{among}
 use Rattle.model.specs.Steps.{passed}
@@ -28,18 +29,38 @@ slice_bounds-find-start c = omega (arith, (here c).order, (here c).inside)
 pub slice_bounds-find-end : goal.slice_bounds-find-end
 slice_bounds-find-end c = omega (arith, (here c).order, (here c).inside)
 
-pub find-found-requires : goal.find-found-requires
-find-found-requires c = ap ascending (here (goal.at.find-found-requires c).After-start_of-stop).is ∙ c.requires.0.ascend c.args.k
+pub find-requires : goal.find-requires
+find-requires c = ap ascending (here (goal.at.find-requires c).After-start_of-stop).is ∙ c.requires.0.ascend c.args.k
 
-pub overflow_add-place : goal.overflow_add-place
-overflow_add-place c =
-    let l = here (goal.at.overflow_add-place c).After-start_of-stop in
-    let args = c.args in
-    let in_list : c.find-found.result.place ≤ length (get_or (lists_from args.numbers.now 0 args.ends.now) args.k []) = rw (c.find-found.ensures.0, l.is) (passed-inside _ args.number) in
-    omega (arith, in_list, l.many, l.order, l.inside)
+-- what the search of the list hands back, of the list and in the whole row
+module _ (c : After-start_of-stop) where
+  abbrev start : ℕ
+  start = c.start_of-start.result
 
-pub returns : goal.returns
-returns c =
-    let f = c.find-found.ensures in
-    let args = c.args in
-    (ap₂ (λ (a b : ℕ). a + b) c.start_of-start.ensures (f.0 ∙ ap (λ (l : List ℕ). passed l args.number) (here (goal.at.returns c).After-start_of-stop).is), f.1 ∙ ap (among args.number) (here (goal.at.returns c).After-start_of-stop).is)
+  abbrev searched : List ℕ
+  searched = take (c.start_of-stop.result - start) (drop start c.args.numbers.now)
+
+  abbrev list : List ℕ
+  list = get_or (lists_from c.args.numbers.now 0 c.args.ends.now) c.args.k []
+
+  fits : (place : ℕ) → place ≡ passed searched c.args.number → start + place ≤ length c.args.numbers.now
+  fits place e =
+      let in_list : place ≤ length list = rw (e, (here c).is) (passed-inside _ c.args.number) in
+      omega (arith, (here c).many, (here c).order, (here c).inside)
+
+  in_row : (place : ℕ) (there : Bool) → (place ≡ passed searched c.args.number) × (there ≡ among c.args.number searched)
+      → (start + place ≡ get_or (0 ∷ c.args.ends.now) c.args.k 0 + passed list c.args.number) × (there ≡ among c.args.number list)
+  in_row place there f =
+      (ap₂ (λ (a b : ℕ). a + b) c.start_of-start.ensures (f.0 ∙ ap (λ (l : List ℕ). passed l c.args.number) (here c).is), f.1 ∙ ap (among c.args.number) (here c).is)
+
+pub overflow_add-result : goal.overflow_add-result
+overflow_add-result c = omega (arith, fits (goal.at.overflow_add-result c).After-start_of-stop c.in-Ok.place c.in-Ok.ensures.0)
+
+pub overflow_add-result-in-Err : goal.overflow_add-result-in-Err
+overflow_add-result-in-Err c = omega (arith, fits (goal.at.overflow_add-result-in-Err c).After-start_of-stop c.in-Err.place c.in-Err.ensures.0)
+
+pub returns-in-Ok : goal.returns-in-Ok
+returns-in-Ok c = in_row (goal.at.returns-in-Ok c).After-start_of-stop c.in-Ok.place true c.in-Ok.ensures
+
+pub returns-in-Err : goal.returns-in-Err
+returns-in-Err c = in_row (goal.at.returns-in-Err c).After-start_of-stop c.in-Err.place false c.in-Err.ensures

@@ -26,4 +26,4 @@ pub returns : goal.returns
 returns c =
     let args = c.args in
     let ls : List (List ℕ) = lists_from args.numbers.now 0 args.ends.now in
-    c.find_in-found.ensures.1 ∙ ap (among args.number) (sym (new_other (as_change args.list args.number args.adds) ls args.k c.if-k-list.false))
+    c.is_ok.ensures.value ∙ c.find_in.ensures.1 ∙ ap (among args.number) (sym (new_other (as_change args.list args.number args.adds) ls args.k c.if-k-list.false))

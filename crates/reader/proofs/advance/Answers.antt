@@ -29,9 +29,6 @@ pub returns-then-not-passes-2 : goal.returns-then-not-passes-2
 returns-then-not-passes-2 c =
     one_move _ _ _ _ _ (up (goal.at.returns-then-not-passes-2 c).After-shared_slice_known-1) (sym c.passes.ensures ∙ c.if-not-passes.false) (sym c.passes-2.ensures ∙ c.if-not-passes-2.true) (omega arith) (omega arith)
 
-pub overflow_sub-singles : goal.overflow_sub-singles
-overflow_sub-singles c = omega (arith, behind (goal.at.overflow_sub-singles c).After-moved-at)
-
 pub returns : goal.returns
 returns c =
     advanced _ _ _ _ _ _ _ c.hop-hopped.ensures (behind (goal.at.returns c).After-moved-at) (omega arith)

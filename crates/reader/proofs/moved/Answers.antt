@@ -1,6 +1,6 @@
 -- `moved` meets its contract: at each place, the place and the moves left from there give the place at the end. The measure is
 -- what is left of the list. Assumes nothing.
-use mathlib.Core.Path.{◌≡◌, refl, sym, ◌∙◌}
+use mathlib.Core.Path.{◌≡◌, sym, ◌∙◌}
 use mathlib.Core.Bool.{true}
 use native.Mathlib.Omega.{arith}
 use Rattle.reader.specs.Sought.{below}
@@ -11,9 +11,6 @@ use Rattle.reader.proofs.moved.Goals.{In-loop-at}
 -- the number at the place is below the one sought
 here : (c : In-loop-at) → below c.args.list.now c.loop-at.at c.args.to ≡ true
 here c = sym c.passes.ensures ∙ c.loop-at-test.true
-
-pub loop-at-init : goal.loop-at-init
-loop-at-init c = refl
 
 pub overflow_add-at : goal.overflow_add-at
 overflow_add-at c = omega (arith, (passing _ _ _ (here c)).0)

@@ -1,5 +1,5 @@
--- `node_ends` meets its contract: before each turn the table says of every tree at or above the node where it ends. The measure
--- is the node. Assumes nothing.
+-- `node_ends` meets its contract: before each turn the table says of every tree at or above the node where it ends. Assumes
+-- nothing.
 use mathlib.Core.Path.{refl}
 use mathlib.Core.List.{List}
 use Prim.Native.Nat.{ℕ, ◌-◌}

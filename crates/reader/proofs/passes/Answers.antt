@@ -5,7 +5,7 @@ use Rattle.reader.proofs.passes.Goals as goal
 
 pub returns-then-at-list : goal.returns-then-at-list
 unfolding below
-returns-then-at-list c = rw (lt-ltb _ _ c.if-at-list.true, c.wide.ensures)
+returns-then-at-list c = rw (lt-ltb _ _ c.if-at-list.true, c.from.ensures)
 
 pub returns-else-at-list : goal.returns-else-at-list
 unfolding below

@@ -22,59 +22,51 @@ there c = listed _ _ c.args.k _ _ c.requires.readable c.requires.k_in_bounds.0 c
 stops : (c : After-advance-went) → let args = c.args in Stopped (get_or (lists_from args.numbers.now 0 args.ends.now) args.k []) args.place args.to c.advance-went.result.at c.advance-went.result.moves
 stops c =
     let args = c.args in
-    let a = rw (c.index-before.ensures.0, (there c).is) at c.advance-went.ensures in
+    let a = rw (c.from-before.ensures, (there c).is) at c.advance-went.ensures in
     stopped _ args.place args.to _ _ (readable_up args.numbers.now args.ends.now (λ i. (c.shared_slice_known-1.given i).fits) c.requires.readable args.k) a
 
 few : (c : After-advance-went) → c.advance-went.result.at ≤ 65535
 few c =
     let l = there c in
-    (stops c).small (omega (arith, c.index-before.ensures.0, c.index-before.ensures.1)) (omega (arith, l.many, l.few))
-
-pub offset_bounds-numbers-from : goal.offset_bounds-numbers-from
-offset_bounds-numbers-from c = omega (arith, (here c).order, (here c).inside)
-
-pub slice_bounds-list-count : goal.slice_bounds-list-count
-slice_bounds-list-count c = omega (arith, (here c).order, (here c).inside)
-
-pub slice_bounds-list-start : goal.slice_bounds-list-start
-slice_bounds-list-start c = omega (arith, (here c).order, (here c).inside)
-
-pub slice_bounds-list-end : goal.slice_bounds-list-end
-slice_bounds-list-end c = omega (arith, (here c).order, (here c).inside)
+    (stops c).small (omega (arith, c.from-before.ensures)) (omega (arith, l.many, l.few))
 
 pub advance-went-requires : goal.advance-went-requires
 advance-went-requires c =
     let l = here (goal.at.advance-went-requires c).After-start_of-stop in
-    (rw l.is (c.requires.readable.ascend c.args.k), omega (arith, ap length l.is, l.many, l.few), c.index-before.ensures.1)
+    (rw l.is (c.requires.readable.ascend c.args.k), omega (arith, ap length l.is, l.many, l.few), omega arith)
 
-pub moves_of-moves-requires : goal.moves_of-moves-requires
-moves_of-moves-requires c = omega (arith, few c, (stops c).within)
+pub overflow_cast-moves : goal.overflow_cast-moves
+overflow_cast-moves c = let w = (goal.at.overflow_cast-moves c).After-advance-went in omega (arith, few w, (stops w).within)
 
-pub place_of-after-requires : goal.place_of-after-requires
-place_of-after-requires c = omega (arith, few (goal.at.place_of-after-requires c).After-advance-went, c.index-before.ensures.1)
+pub overflow_cast-place : goal.overflow_cast-place
+overflow_cast-place c = omega (arith, few (goal.at.overflow_cast-place c).After-advance-went)
 
 pub returns-then-at-list : goal.returns-then-at-list
 returns-then-at-list c =
-    let l = here (goal.at.returns-then-at-list c).After-start_of-stop in
-    let number = c.wide.ensures ∙ ap (λ (xs : List ℕ). get_or xs c.advance-went.result.at 0) l.is in
-    let low : c.wide.result < top = omega (arith, c.wide.ensures, (c.shared_slice_known-then-at-list-1.given c.advance-went.result.at).fits) in
-    rw (c.place_of-after.ensures, c.moves_of-moves.ensures) (record {
-      above = rw number ((stops (goal.at.returns-then-at-list c).After-advance-went).above (omega (arith, l.many, c.if-at-list.true)));
+    let w = (goal.at.returns-then-at-list c).After-advance-went in
+    let l = there w in
+    let s = stops w in
+    let number = c.from.ensures ∙ ap (λ (xs : List ℕ). get_or xs c.advance-went.result.at 0) l.is in
+    let low : c.from.result < top = omega (arith, c.from.ensures, (c.shared_slice_known-then-at-list-1.given c.advance-went.result.at).fits) in
+    record {
+      above = rw number (s.above (omega (arith, l.many, c.if-at-list.true)));
       low = omega arith;
-      small = omega (arith, few (goal.at.returns-then-at-list c).After-advance-went, c.index-before.ensures.0, c.index-before.ensures.1);
-      within = (stops (goal.at.returns-then-at-list c).After-advance-went).within;
-      still = (stops (goal.at.returns-then-at-list c).After-advance-went).still;
-      is = (stops (goal.at.returns-then-at-list c).After-advance-went).number c.wide.result (omega (arith, l.many, c.if-at-list.true)) number low;
-    })
+      small = few w;
+      within = s.within;
+      still = s.still;
+      is = s.number c.from.result (omega (arith, l.many, c.if-at-list.true)) number low;
+    }
 
 pub returns-else-at-list : goal.returns-else-at-list
 returns-else-at-list c =
-    let l = here (goal.at.returns-else-at-list c).After-start_of-stop in
-    rw (c.place_of-after.ensures, c.moves_of-moves.ensures) (record {
+    let w = (goal.at.returns-else-at-list c).After-advance-went in
+    let l = there w in
+    let s = stops w in
+    record {
       above = omega (arith, c.requires.k_in_bounds.1);
       low = omega (arith, c.requires.k_in_bounds.1);
-      small = omega (arith, few (goal.at.returns-else-at-list c).After-advance-went, c.index-before.ensures.0, c.index-before.ensures.1);
-      within = (stops (goal.at.returns-else-at-list c).After-advance-went).within;
-      still = (stops (goal.at.returns-else-at-list c).After-advance-went).still;
-      is = (stops (goal.at.returns-else-at-list c).After-advance-went).finished (omega (arith, l.many, c.if-at-list.false));
-    })
+      small = few w;
+      within = s.within;
+      still = s.still;
+      is = s.finished (omega (arith, l.many, c.if-at-list.false));
+    }

@@ -41,13 +41,13 @@ no_list b h k e = go (eqb b 64) (leb 129 b && leb b 136) (leb 193 b && leb b 200
 list_read : (q : After-read_list-r) → let args = q.args in
     Named args.numbers.now args.ends.now args.byte (λ l. Read l args.place args.to q.read_list-r.result)
 list_read q = let args = q.args in
-    record { list = args.byte; named = a_list args.byte (omega arith); of = rw q.wide.ensures at q.read_list-r.ensures }
+    record { list = args.byte; named = a_list args.byte (omega arith); of = q.read_list-r.ensures }
 
 pub read_list-r-requires : goal.read_list-r-requires
 read_list-r-requires c =
     record {
       readable = c.requires.readable;
-      k_in_bounds = (omega (arith, c.wide.ensures, c.requires.by_index.0 c.args.byte (a_list c.args.byte (omega arith))), c.requires.by_index.1);
+      k_in_bounds = (omega (arith, c.requires.by_index.0 c.args.byte (a_list c.args.byte (omega arith))), c.requires.by_index.1);
     }
 
 pub returns-then-r-eq0 : goal.returns-then-r-eq0

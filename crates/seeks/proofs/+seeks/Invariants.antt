@@ -2,6 +2,7 @@
 -- for the first of these. Difference and intersection repeat at a higher number. Assumes nothing.
 use Rattle.std.proofs.Common.{ℕ, ◌+◌, ◌-◌, ◌*◌}
 use Rattle.model.specs.Lists.{top}
+use Rattle.reader.specs.Sought.{readers_of}
 use Rattle.seeks.proofs.Kept.{Increments, Intersects, Unites}
 use Rattle.seeks.proofs.+seeks.Given as goal
 
@@ -21,19 +22,22 @@ abbrev pub decreases-seek_union : goal.decreases-seek_union
 decreases-seek_union l = left_from l.node
 
 abbrev pub invariant-seek_difference-loop-y : goal.invariant-seek_difference-loop-y
-invariant-seek_difference-loop-y l = Increments l.numbers l.ends l.nodes l.node l.initial.readers l.initial.x l.initial.y l.readers l.x l.y
+invariant-seek_difference-loop-y l =
+    let g = l.generator in
+    Increments g.numbers.now g.ends.now g.nodes.now l.node (readers_of l.initial.readers) l.initial.x l.initial.y (readers_of l.readers) l.x l.y
 
 abbrev pub decreases-seek_difference-loop-y : goal.decreases-seek_difference-loop-y
 decreases-seek_difference-loop-y l = top - l.x
 
 abbrev pub invariant-seek_intersection-loop-left : goal.invariant-seek_intersection-loop-left
-invariant-seek_intersection-loop-left l = Intersects l.numbers l.ends l.nodes l.node l.count l.from l.first l.initial.readers l.readers l.candidate l.at l.left
+invariant-seek_intersection-loop-left l =
+    let g = l.generator in
+    Intersects g.numbers.now g.ends.now g.nodes.now l.node l.count l.from l.first (readers_of l.initial.readers) (readers_of l.readers) l.candidate l.at l.left
 
 abbrev pub decreases-seek_intersection-loop-left : goal.decreases-seek_intersection-loop-left
 decreases-seek_intersection-loop-left l = (top - l.candidate) * 256 + l.left
 
-abbrev pub invariant-seek_union-loop-left : goal.invariant-seek_union-loop-left
-invariant-seek_union-loop-left l = Unites l.numbers l.ends l.nodes l.node l.to l.initial.readers l.readers l.least l.at l.left
-
-abbrev pub decreases-seek_union-loop-left : goal.decreases-seek_union-loop-left
-decreases-seek_union-loop-left l = l.left
+abbrev pub invariant-seek_union-loop : goal.invariant-seek_union-loop
+invariant-seek_union-loop l =
+    let g = l.generator in
+    Unites g.numbers.now g.ends.now g.nodes.now l.node l.to (readers_of l.initial.readers) (readers_of l.readers) l.least l.at (l.count - l.counter)

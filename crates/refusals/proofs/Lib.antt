@@ -1,0 +1,2 @@
+-- The laws about refusals.
+pub mod Up
