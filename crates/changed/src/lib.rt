@@ -23,7 +23,7 @@ pub struct Outcome {
 }
 
 // What a case is made of: its numbers, of which so many are lent, how the lists lie in them, the expression, the change, and the kept
-// row.
+// row. Rows are of fixed length here and below: a case allocates nothing.
 #[derive(Clone, Copy)]
 pub struct Asked {
     numbers: [u32; 512],

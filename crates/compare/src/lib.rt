@@ -77,7 +77,7 @@ impl fmt::Display for What {
     }
 }
 
-// What the engine's run handed back, of the places their sum.
+// What the engine's run handed back, of the places their sum. The replies' row is of fixed length: a case allocates nothing.
 #[derive(Clone, Copy)]
 pub struct Verdict {
     pub number: u32,

@@ -1,5 +1,5 @@
 // Rows compared and copied, and the places of a run's readers.
-ghost use Rattle.std.specs.Prelude.{◌≡◌, ◌≤◌, ◌<◌, length, take, drop, slice_index_or, IfSome};
+ghost use Rattle.std.specs.Prelude.{◌≡◌, ◌≤◌, ◌<◌, ℕ, true, false, length, take, drop, slice_index_or, IfSome, IsNone};
 
 // The first n elements of a row, or all of a shorter one.
 pub fn front<T>(row: &[T], n: usize) -> &[T]
@@ -10,17 +10,22 @@ pub fn front<T>(row: &[T], n: usize) -> &[T]
 
 // The elements of a row from a place on, or all of a shorter one.
 pub fn rest<T>(row: &[T], from: usize) -> &[T]
-    ensures { from ≤ length row.now → result.now ≡ drop from row.now }
+    ensures rest { from ≤ length row.now → result.now ≡ drop from row.now }
+    ensures all { length row.now < from → result.now ≡ row.now }
 {
     row.get(from..).unwrap_or(row)
 }
 
-// Where the first element stands that is another in a second row of the same length, and what that row has there.
+// Where the first element stands that is another in a second row, as far as both go, and what that row has there.
 pub fn first_difference<T: Copy + PartialEq>(row: &[T], other: &[T]) -> Option<(usize, T)>
-    ensures within { IfSome result (λ d. d.0 < length row.now) }
+    ensures within { IfSome result (λ d. (d.0 < length row.now) × (d.0 < length other.now)) }
     ensures there { IfSome result (λ d. slice_index_or other.now d.0 d.1 ≡ d.1) }
+    ensures differs { IfSome result (λ d. T.eq (slice_index_or row.now d.0 d.1) d.1 ≡ false) }
+    ensures first { IfSome result (λ d. (k : ℕ) → k < d.0 → T.eq (slice_index_or row.now k d.1) (slice_index_or other.now k d.1) ≡ true) }
+    ensures none { IsNone result → (k : ℕ) → (x : T) → k < length row.now → k < length other.now → T.eq (slice_index_or row.now k x) (slice_index_or other.now k x) ≡ true }
 {
-    for (at, (x, y)) in row.iter().zip(other).enumerate() {
+    for (at, x) in row.iter().enumerate() {
+        let y = other.get(at)?;
         if x != y {
             return Some((at, *y));
         }

@@ -56,7 +56,8 @@ fn is_read(delivery: &[u8], numbers: &[u32], lists: &Lists) -> bool {
         && read.word == word_there(lists)
 }
 
-// Lists written as a delivery.
+// Lists written as a delivery. The array is of fixed length: a case allocates nothing, so that a comparison cannot fail for want of
+// memory.
 #[derive(Clone, Copy)]
 pub struct Delivery {
     pub bytes: [u8; 4096],

@@ -1,4 +1,6 @@
 // What generated cases came to, in sums.
+ghost use Rattle.std.specs.Prelude.{◌≡◌, ◌+◌, ◌%◌, ◌^◌};
+
 use crate::replies::Reply;
 use crate::{Verdict, What};
 
@@ -20,7 +22,10 @@ pub struct Totals {
     pub numbers: [u64; 22],
 }
 
-fn add(sum: &mut u64, by: u64) {
+// A sum grows by a number; one that passes 64 bits starts over.
+pub fn add(sum: &mut u64, by: u64)
+    ensures { sum.new ≡ (sum.old + by) % 2 ^ 64 }
+{
     *sum = sum.wrapping_add(by);
 }
 

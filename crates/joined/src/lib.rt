@@ -19,7 +19,7 @@ pub struct Outcome {
     pub count: usize,
 }
 
-// A delivery, which may be damaged.
+// A delivery, which may be damaged. Rows are of fixed length here and below: a case allocates nothing.
 #[derive(Clone, Copy)]
 pub struct Stored {
     row: [u8; 2560],

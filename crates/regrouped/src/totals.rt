@@ -1,6 +1,7 @@
 // What generated regroupings came to, in sums.
 use crate::Outcome;
 use compare::totals;
+use compare::totals::add;
 
 // The regrouped expressions' runs, the regroupings by kind, and how many rows were others, had 48 nodes, had an operator of eight, and
 // had other moves.
@@ -12,10 +13,6 @@ pub struct Totals {
     pub full: u64,
     pub wide: u64,
     pub moved: u64,
-}
-
-fn add(sum: &mut u64, by: u64) {
-    *sum = sum.wrapping_add(by);
 }
 
 impl Totals {
