@@ -208,8 +208,8 @@ pub fn test<R: Print>(rt: &R, name: &[u8], numbers: &[u32], laid: &Lists) -> io:
     let lent = Lent(numbers, laid);
     rt.write_all(name)?;
     match lists::test_lists(numbers, ends_of(laid), laid.word) {
-        Ok(()) => println!(rt; ", test{lent}: accepted"),
-        Err(refusal) => println!(rt; ", test{lent}: refused {}", u32::from(refusal)),
+        0 => println!(rt; ", test{lent}: accepted"),
+        number => println!(rt; ", test{lent}: refused {number}"),
     }
 }
 

@@ -190,7 +190,7 @@ fn try_run(
 ) -> Result<RunResult, Refusal>
     ensures { ran (ran_as result) replies.new ≡ run_call (lend numbers.now ends.now word) packed.now (starting bookmark) codes.now arguments.now replies.old }
 {
-    lists::test_lists(numbers, ends, word)?;
+    lists::try_lists(numbers, ends, word)?;
     let read = expression::read_expression(Form::Packed, packed, ends.len(), word)?;
     if TOP < bookmark {
         return Err(Refusal::BadBookmark);

@@ -119,8 +119,8 @@ fn all_ascending(numbers: &[u32], ends: &[u32]) -> bool
     true
 }
 
-// The first of 7, 10 and 11 that refuses the lists.
-pub fn test_lists(numbers: &[u32], ends: &[u32], word: u32) -> Result<(), Refusal>
+// The first of 7, 10 and 11 that refuses the lists, as an `Err`.
+pub fn try_lists(numbers: &[u32], ends: &[u32], word: u32) -> Result<(), Refusal>
     ensures { number_of (outcome result) ≡ number_of (lists_of (lend numbers.now ends.now word)) }
 {
     if !count_holds(ends.len()) {
@@ -133,6 +133,17 @@ pub fn test_lists(numbers: &[u32], ends: &[u32], word: u32) -> Result<(), Refusa
         return Err(Refusal::NotAscending);
     }
     Ok(())
+}
+
+// The number of the first of 7, 10 and 11 that refuses the lists; 0 where none does.
+pub fn test_lists(numbers: &[u32], ends: &[u32], word: u32) -> u32
+    ensures { result ≡ number_of (lists_of (lend numbers.now ends.now word)) }
+{
+    let tested = try_lists(numbers, ends, word);
+    match tested {
+        Ok(()) => 0,
+        Err(refusal) => u32::from(refusal),
+    }
 }
 
 // Where list k starts: at the end of the list before it, the first one at 0.
@@ -155,7 +166,7 @@ pub fn length_of(ends: &[u32], k: usize) -> usize
 pub fn list_span(numbers: &[u32], ends: &[u32], word: u32, k: usize) -> Span
     ensures { span_says result ≡ span_of (lend numbers.now ends.now word) k }
 {
-    match test_lists(numbers, ends, word) {
+    match try_lists(numbers, ends, word) {
         Ok(()) if k < ends.len() => Span {
             start: start_of(ends, k),
             size: length_of(ends, k),

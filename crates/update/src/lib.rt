@@ -127,7 +127,7 @@ fn find_plan(
 ) -> Result<Plan, Refusal>
     ensures { plan_says result ≡ placed_of (lend numbers.now ends.now word) packed.now (as_change list number adds) members.now count }
 {
-    lists::test_lists(numbers, ends, word)?;
+    lists::try_lists(numbers, ends, word)?;
     let read = expression::read_expression(Form::Packed, packed, ends.len(), word)?;
     expression::test_list(ends.len(), word, list)?;
     if members.len() < count {

@@ -13,19 +13,19 @@ pub returns-in_default-2 : goal.returns-in_default-2
 unfolding span_says
 returns-in_default-2 c =
     let args = c.args in
-    sym (span-refused (lend args.numbers.now args.ends.now args.word) args.k (refuses _ c.test_lists.ensures c.in_default.is))
+    sym (span-refused (lend args.numbers.now args.ends.now args.word) args.k (refuses _ c.try_lists.ensures c.in_default.is))
 
 pub returns-in_default : goal.returns-in_default
 unfolding span_says
 returns-in_default c =
     let args = c.args in
-    sym (span-missing (lend args.numbers.now args.ends.now args.word) args.k (accepts _ c.test_lists.ensures c.in-Ok.is) (omega arith))
+    sym (span-missing (lend args.numbers.now args.ends.now args.word) args.k (accepts _ c.try_lists.ensures c.in-Ok.is) (omega arith))
 
 -- list k is there
 there : (c : After-start_of) → let args = c.args in There (lend args.numbers.now args.ends.now args.word) args.k
 there c =
     let args = c.args in
-    span_there (lend args.numbers.now args.ends.now args.word) args.k (accepts _ c.test_lists.ensures c.in-Ok.is) (omega arith)
+    span_there (lend args.numbers.now args.ends.now args.word) args.k (accepts _ c.try_lists.ensures c.in-Ok.is) (omega arith)
 
 pub length_of-requires : goal.length_of-requires
 length_of-requires c = (omega arith, (there (goal.at.length_of-requires c).After-start_of).order)
