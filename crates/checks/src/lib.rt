@@ -40,10 +40,11 @@ pub fn check(generator: &Generator, node: usize, start: Readers, d: u32) -> Chec
             let place = readers.places[node];
             let list = k as usize;
             let r = reader::read_list(generator.numbers, generator.ends, list, place, to);
-            let answer = readers.take(node, r);
+            readers.places[node] = r.place;
+            readers.moves += r.moves;
             return CheckResult {
                 readers,
-                yes: answer == to,
+                yes: r.answer == to,
             };
         }
         Node::Difference => {
@@ -82,10 +83,15 @@ fn check_members(
         if yes == until {
             break;
         }
-        let member = generator.read_member(at, &readers, to);
+        let place = readers.places[at];
+        let member = generator.read_member(at, place, to);
         yes = match member {
             MemberRead::Still(answer) => answer == to,
-            MemberRead::Moved(r) => readers.take(at, r) == to,
+            MemberRead::Moved(r) => {
+                readers.places[at] = r.place;
+                readers.moves += r.moves;
+                r.answer == to
+            }
             MemberRead::Operator => {
                 let s = check(generator, at, readers, d);
                 readers = s.readers;

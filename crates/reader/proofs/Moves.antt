@@ -18,7 +18,7 @@ use Rattle.model.proofs.Hops.{passed_on, passed_off, passed-le, up_le, hops-far,
 use Rattle.model.proofs.Places.{sum-set}
 use Rattle.reader.specs.declared.ReadResult.{ReadResult}
 use Rattle.reader.specs.Tally.{Tallied}
-use Rattle.reader.specs.Sought.{found, below, Hopped, Advanced, Read, Stays}
+use Rattle.reader.specs.Sought.{has_read, found, below, Hopped, Advanced, Read, Stays}
 use Rattle.reader.proofs.Answers.{found_at, found-end}
 
 -- ---- one turn, at a place of the list
@@ -154,7 +154,7 @@ pub moves-few : (places : List ℕ) (moves : ℕ) → Tallied places moves → m
 moves-few places moves t = omega (arith, t.within, rw t.many at (sum_bound places 65535 t.small))
 
 -- a reader comes to a place, by so many moves
-pub moved_tallied : (places : List ℕ) (moves i place n : ℕ) → Tallied places moves → i < 48 → place ≤ 65535 → get_or places i 0 + n ≤ place → Tallied (set places i place) (moves + n)
+moved_tallied : (places : List ℕ) (moves i place n : ℕ) → Tallied places moves → i < 48 → place ≤ 65535 → get_or places i 0 + n ≤ place → Tallied (set places i place) (moves + n)
 moved_tallied places moves i place n t here small within =
     let more : get_or places i 0 + (place - get_or places i 0) ≡ place = omega arith in
     let grown = rw more at (sum-set places i (place - get_or places i 0) (omega (arith, t.many))) in
@@ -163,6 +163,21 @@ moved_tallied places moves i place n t here small within =
       small = λ j. below_set places i place 65535 j small (t.small j);
       within = omega (arith, grown, t.within);
     }
+
+-- readers to which a function writes: the check holds their places and moves apart, and the tally is said of them by its proofs
+abbrev pub apart : List ℕ × (ℕ × Unit {0}) → model.Readers
+apart rs = record { places = rs.0; moves = rs.1.0 }
+
+abbrev pub AreTallied : model.Readers → Type 0
+AreTallied rs = Tallied rs.places rs.moves
+
+-- a node's reader has made a step: they are tallied after it too, and their moves fit
+module _ {l : List ℕ} {e : ℕ} {r : ReadResult} (rs : model.Readers) (i : ℕ) (reads : Read l (get_or rs.places i 0) e r) (here : i < 48) (t : AreTallied rs) where
+  pub stepped_tallied : AreTallied (has_read i r rs)
+  stepped_tallied = moved_tallied rs.places rs.moves i r.place r.moves t here reads.small reads.within
+
+  pub stepped-fits : rs.moves + r.moves ≤ 48 * 65535
+  stepped-fits = moves-few _ _ stepped_tallied
 
 -- the readers after the reader of the node i has come to a place, by so many moves
 abbrev after : model.Readers → ℕ → ℕ → ℕ → model.Readers

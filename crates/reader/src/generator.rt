@@ -1,7 +1,7 @@
 ghost use Rattle.model.specs.Lists.{Numbers};
 ghost use Rattle.reader.specs.Rows.{Ready};
 
-use crate::{MemberRead, Readers};
+use crate::MemberRead;
 
 // A list set generator: an expression in its row of nodes, over lent lists, with the table of what is behind each node.
 #[derive(Clone, Copy)]
@@ -21,14 +21,13 @@ impl Generator<'_> {
     ghost use Rattle.reader.specs.Rows.{Standing};
     ghost use Rattle.reader.specs.Sought.{Reads};
 
-    // A member node, read by its reader. Always inlined: as a call of its own it takes up to half as many instructions more.
+    // A member node, read from the place of its reader. Always inlined: as a call of its own it takes up to half as many instructions more.
     #[inline(always)]
-    pub fn read_member(&self, node: usize, readers: &Readers, to: u64) -> MemberRead
+    pub fn read_member(&self, node: usize, place: u16, to: u64) -> MemberRead
         requires standing { Standing (length self.now.ends.now) self.now.nodes.now node }
         requires to_le_top { to ≤ top }
-        ensures { Reads self.now.numbers.now self.now.ends.now (get_or self.now.nodes.now node 0) (get_or readers.now.places node 0) to result }
+        ensures { Reads self.now.numbers.now self.now.ends.now (get_or self.now.nodes.now node 0) place to result }
     {
-        let place = readers.places[node];
         crate::read_member(self.numbers, self.ends, self.nodes[node], place, to)
     }
 }

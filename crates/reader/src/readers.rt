@@ -1,7 +1,5 @@
 ghost use Rattle.reader.specs.Tally.{Tallied};
 
-use crate::ReadResult;
-
 // The readers of a run, "one place for each of the 48 possible nodes in expression order", and their moves.
 #[derive(Drop)]
 pub struct Readers {
@@ -11,8 +9,8 @@ pub struct Readers {
 }
 
 impl Readers {
-    ghost use Rattle.std.specs.Prelude.{◌≡◌, ◌+◌, ◌≤◌, ◌<◌, get_or};
-    ghost use Rattle.reader.specs.Sought.{readers_of, none_read, has_read};
+    ghost use Rattle.std.specs.Prelude.{◌≡◌};
+    ghost use Rattle.reader.specs.Sought.{readers_of, none_read};
 
     // Every reader at the start of its list.
     pub fn first() -> Self
@@ -22,17 +20,5 @@ impl Readers {
             places: [0; 48],
             moves: 0,
         }
-    }
-
-    // The reader of a node has made a step: it is where that leaves it, and its moves count. Hands back what it answers.
-    pub fn take(&mut self, node: usize, read: ReadResult) -> u64
-        requires node_in_bounds { node < 48 }
-        requires within { get_or self.old.places node 0 + read.moves ≤ read.place }
-        ensures answer { result ≡ read.answer }
-        ensures readers { readers_of self.new ≡ has_read node read (readers_of self.old) }
-    {
-        self.places[node] = read.place;
-        self.moves += read.moves;
-        read.answer
     }
 }

@@ -12,6 +12,7 @@ use Rattle.model.specs.Expression.{Tree}
 use Rattle.model.specs.Steps.{Readers, Found, seek as seek_tree}
 use Rattle.reader.specs.Rows.{Stands, StandingEach}
 use Rattle.reader.specs.Sought.{found}
+use Rattle.reader.proofs.Moves.{AreTallied}
 use Rattle.reader.proofs.Members.{Comes}
 use Rattle.seeks.proofs.Turns.{holding, holding-turn, going}
 use Rattle.seeks.proofs.Nodes.{uniting, following}
@@ -49,6 +50,7 @@ pub record Ended (numbers ends nodes : List ℕ) (node from : ℕ) (start : Read
 pub record Intersects (numbers ends nodes : List ℕ) (node count from first : ℕ) (start here : Readers) (candidate at left : ℕ) : Type 0 where
   pub above : from ≤ candidate
   pub low : candidate ≤ top
+  pub tallied : AreTallied here
   pub stage : Begins numbers ends nodes node count from first start candidate at left here
       ⊎ (Within numbers ends nodes node from first start candidate at left here
       ⊎ Ended numbers ends nodes node from start candidate left here)
@@ -58,6 +60,7 @@ pub record Unites (numbers ends nodes : List ℕ) (node to : ℕ) (start here : 
   pub behind_node : node < at
   pub above : to ≤ least
   pub low : least ≤ top
+  pub tallied : AreTallied here
   pub stand : StandingEach (length ends) nodes at left
   pub same : (f : Found) → Comes (length ends) nodes (uniting (lists_from numbers 0 ends) to) at left (least, here) f
       → (u : Tree) → Stands (length ends) nodes u node → f ≡ seek_tree (lists_from numbers 0 ends) u node to start
@@ -74,5 +77,6 @@ increments numbers ends nodes node readers₀ x₀ y₀ readers x y inv same nex
   above = omega (arith, inv.above, h.above);
   low = h.low;
   not_finished = h.not_finished;
+  tallied = h.tallied;
   goes_on = λ u s. h.goes_on u s ∙ sym (holding-turn _ _ _ _ same) ∙ inv.goes_on u s;
 }

@@ -15,6 +15,7 @@ use Rattle.reader.specs.declared.SeekResult.{SeekResult}
 use Rattle.reader.specs.declared.ReadResult.{ReadResult}
 use Rattle.reader.specs.Rows.{Stands, Ready}
 use Rattle.reader.specs.Sought.{readers_of, found, found_of, Sound, has_read, Read, Stays, Named}
+use Rattle.reader.proofs.Moves.{AreTallied, stepped_tallied}
 use Rattle.reader.proofs.Members.{pair}
 use Rattle.seeks.proofs.Turns.{holding, holding_stop}
 use Rattle.seeks.proofs.Nodes.{read_is, both-ended, both-held}
@@ -23,21 +24,27 @@ use Rattle.seeks.proofs.Nodes.{read_is, both-ended, both-held}
 pub record Leaves (numbers ends nodes : List ℕ) (i e : ℕ) (start : Readers) (x : ℕ) (after : Readers) : Type 0 where
   pub above : e ≤ x
   pub low : x ≤ top
+  pub tallied : AreTallied after
   pub finds : (u : Tree) → Stands (length ends) nodes u i → found x after ≡ seek (lists_from numbers 0 ends) u i e start
 
-module _ (numbers ends nodes : List ℕ) (i e : ℕ) (start : Readers) where
+module _ (numbers ends nodes : List ℕ) (i e : ℕ) (start : Readers) (t : AreTallied start) where
   -- a list, whose reader stays
   pub still : (x : ℕ) → Named numbers ends (get_or nodes i 0) (λ l. Stays l (get_or start.places i 0) e x) → Leaves numbers ends nodes i e start x start
-  still x n = record { above = n.of.above; low = n.of.low; finds = read_is numbers ends nodes i n.list n.named e start _ (n.of.is i start refl) }
+  still x n = record { above = n.of.above; low = n.of.low; tallied = t; finds = read_is numbers ends nodes i n.list n.named e start _ (n.of.is i start refl) }
 
   -- a list, whose reader moves
-  pub moves : (r : ReadResult) → Named numbers ends (get_or nodes i 0) (λ l. Read l (get_or start.places i 0) e r) → Leaves numbers ends nodes i e start r.answer (has_read i r start)
-  moves r n = record { above = n.of.above; low = n.of.low; finds = read_is numbers ends nodes i n.list n.named e start _ (n.of.is i start refl) }
+  pub moves : (r : ReadResult) → i < 48 → Named numbers ends (get_or nodes i 0) (λ l. Read l (get_or start.places i 0) e r) → Leaves numbers ends nodes i e start r.answer (has_read i r start)
+  moves r here n = record {
+    above = n.of.above;
+    low = n.of.low;
+    tallied = stepped_tallied start i n.of here t;
+    finds = read_is numbers ends nodes i n.list n.named e start _ (n.of.is i start refl);
+  }
 
 -- an operator, which is sought
 pub left_by : {numbers ends nodes : List ℕ} {i e : ℕ} {start : Readers} {r : SeekResult} → Sound e r
     → ((u : Tree) → Stands (length ends) nodes u i → found_of r ≡ seek (lists_from numbers 0 ends) u i e start) → Leaves numbers ends nodes i e start r.answer (readers_of r.readers)
-left_by sound finds = record { above = sound.above; low = sound.low; finds = finds }
+left_by {r = r} sound finds = record { above = sound.above; low = sound.low; tallied = r.readers.tallied; finds = finds }
 
 -- where a difference stands after a step (a) and a step (b): its first's answer x, not below e, its second's answer y or, where the
 -- first has finished, anything below x, and the readers; it goes on from there to f, whatever tree stands at the node
@@ -45,10 +52,11 @@ pub record Holds (numbers ends nodes : List ℕ) (node e : ℕ) (f : Tree → Fo
   pub above : e ≤ x
   pub low : x ≤ top
   pub not_finished : y ≡ x → x < top
+  pub tallied : AreTallied after
   pub goes_on : (u : Tree) → Stands (length ends) nodes u node → holding (seek (lists_from numbers 0 ends) u node) x y after ≡ f u
 
 module _ (numbers ends nodes behind : List ℕ) (n : Numbers numbers) (r : Ready numbers ends nodes behind) (node : ℕ) (k : node_of (get_or nodes node 0) ≡ accepted Difference)
-    (e : ℕ) (low : e ≤ top) (start : Readers) (long : length start.places ≡ 48) (x : ℕ) (after : Readers) (a : Leaves numbers ends nodes (node + 1) e start x after) where
+    (e : ℕ) (low : e ≤ top) (start : Readers) (t : AreTallied start) (x : ℕ) (after : Readers) (a : Leaves numbers ends nodes (node + 1) e start x after) where
   -- the seek to e
   abbrev sought : Tree → Found
   sought u = seek (lists_from numbers 0 ends) u node e start
@@ -59,8 +67,9 @@ module _ (numbers ends nodes behind : List ℕ) (n : Numbers numbers) (r : Ready
     above = a.above;
     low = a.low;
     not_finished = λ same. absurd (omega (arith, same, apart));
+    tallied = a.tallied;
     goes_on = λ u s. let p = pair r node k u s in
-        holding_stop _ x y _ (λ same. omega (arith, same, apart)) ∙ both-ended numbers ends nodes behind n r node u p s e _ low long x _ (a.finds p.first p.first_at) h;
+        holding_stop _ x y _ (λ same. omega (arith, same, apart)) ∙ both-ended numbers ends nodes behind n r node u p s e _ low t.many x _ (a.finds p.first p.first_at) h;
   }
 
   -- the second has answered
@@ -69,6 +78,7 @@ module _ (numbers ends nodes behind : List ℕ) (n : Numbers numbers) (r : Ready
     above = a.above;
     low = a.low;
     not_finished = λ same. h;
+    tallied = b.tallied;
     goes_on = λ u s. let p = pair r node k u s in
-        both-held numbers ends nodes behind n r node u p s e _ low long x _ (a.finds p.first p.first_at) h y _ (b.finds p.second p.second_at);
+        both-held numbers ends nodes behind n r node u p s e _ low t.many x _ (a.finds p.first p.first_at) h y _ (b.finds p.second p.second_at);
   }

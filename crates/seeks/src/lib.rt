@@ -37,8 +37,12 @@ pub fn seek(generator: &Generator, node: usize, start: Readers, to: u64) -> Seek
             let place = readers.places[node];
             let list = k as usize;
             let r = reader::read_list(generator.numbers, generator.ends, list, place, to);
-            let answer = readers.take(node, r);
-            return SeekResult { readers, answer };
+            readers.places[node] = r.place;
+            readers.moves += r.moves;
+            return SeekResult {
+                readers,
+                answer: r.answer,
+            };
         }
         Node::Difference => return seek_difference(generator, node, start, to),
         Node::Union(n) => return seek_union(generator, node, n, start, to),
@@ -61,10 +65,15 @@ fn seek_difference(generator: &Generator, node: usize, start: Readers, from: u64
     let mut readers = start;
 
     // One, A3(2)(a), "Increment the first LSG (to or) past D": the first is sought to E, which is `from`, and answers x.
-    let member = generator.read_member(first, &readers, from);
+    let place = readers.places[first];
+    let member = generator.read_member(first, place, from);
     let mut x = match member {
         MemberRead::Still(answer) => answer,
-        MemberRead::Moved(r) => readers.take(first, r),
+        MemberRead::Moved(r) => {
+            readers.places[first] = r.place;
+            readers.moves += r.moves;
+            r.answer
+        }
         MemberRead::Operator => {
             let s = seek(generator, first, readers, from);
             readers = s.readers;
@@ -77,10 +86,15 @@ fn seek_difference(generator: &Generator, node: usize, start: Readers, from: u64
     // is not asked, and y stays below x.
     let mut y = 0;
     if x != reader::FINISHED {
-        let member = generator.read_member(second, &readers, x);
+        let place = readers.places[second];
+        let member = generator.read_member(second, place, x);
         y = match member {
             MemberRead::Still(answer) => answer,
-            MemberRead::Moved(r) => readers.take(second, r),
+            MemberRead::Moved(r) => {
+                readers.places[second] = r.place;
+                readers.moves += r.moves;
+                r.answer
+            }
             MemberRead::Operator => {
                 let s = seek(generator, second, readers, x);
                 readers = s.readers;
@@ -94,10 +108,15 @@ fn seek_difference(generator: &Generator, node: usize, start: Readers, from: u64
     while y == x {
         // A2(2)(a), "Increment the first LSG": it is sought past its answer.
         let past = x + 1;
-        let member = generator.read_member(first, &readers, past);
+        let place = readers.places[first];
+        let member = generator.read_member(first, place, past);
         let next = match member {
             MemberRead::Still(answer) => answer,
-            MemberRead::Moved(r) => readers.take(first, r),
+            MemberRead::Moved(r) => {
+                readers.places[first] = r.place;
+                readers.moves += r.moves;
+                r.answer
+            }
             MemberRead::Operator => {
                 let s = seek(generator, first, readers, past);
                 readers = s.readers;
@@ -108,10 +127,15 @@ fn seek_difference(generator: &Generator, node: usize, start: Readers, from: u64
         // A2(2)(b), "Check the current datum of the first LSG against the second LSG. If the check fails, the increment is done. If
         // the check succeeds, go back to step (a)": sought, as in two; where the first has finished, y stays below next.
         if next != reader::FINISHED {
-            let member = generator.read_member(second, &readers, next);
+            let place = readers.places[second];
+            let member = generator.read_member(second, place, next);
             y = match member {
                 MemberRead::Still(answer) => answer,
-                MemberRead::Moved(r) => readers.take(second, r),
+                MemberRead::Moved(r) => {
+                    readers.places[second] = r.place;
+                    readers.moves += r.moves;
+                    r.answer
+                }
                 MemberRead::Operator => {
                     let s = seek(generator, second, readers, next);
                     readers = s.readers;
@@ -137,10 +161,15 @@ fn seek_union(generator: &Generator, node: usize, count: u8, start: Readers, to:
     let mut least = reader::FINISHED;
     let mut at = node + 1;
     for _ in 0..count {
-        let member = generator.read_member(at, &readers, to);
+        let place = readers.places[at];
+        let member = generator.read_member(at, place, to);
         let x = match member {
             MemberRead::Still(answer) => answer,
-            MemberRead::Moved(r) => readers.take(at, r),
+            MemberRead::Moved(r) => {
+                readers.places[at] = r.place;
+                readers.moves += r.moves;
+                r.answer
+            }
             MemberRead::Operator => {
                 let s = seek(generator, at, readers, to);
                 readers = s.readers;
@@ -188,10 +217,15 @@ fn seek_intersection(
     let mut left = count;
     // no `for`: it begins again, and then all are left
     while 0 < left {
-        let member = generator.read_member(at, &readers, candidate);
+        let place = readers.places[at];
+        let member = generator.read_member(at, place, candidate);
         let x = match member {
             MemberRead::Still(answer) => answer,
-            MemberRead::Moved(r) => readers.take(at, r),
+            MemberRead::Moved(r) => {
+                readers.places[at] = r.place;
+                readers.moves += r.moves;
+                r.answer
+            }
             MemberRead::Operator => {
                 let s = seek(generator, at, readers, candidate);
                 readers = s.readers;

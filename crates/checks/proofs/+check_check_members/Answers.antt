@@ -19,6 +19,7 @@ use Rattle.model.proofs.Order.{not_both}
 use Rattle.expression.specs.Reading.{members}
 use Rattle.reader.specs.Rows.{Standing, Ready}
 use Rattle.reader.specs.Sought.{readers_of, has_read, Read, Named}
+use Rattle.reader.proofs.Moves.{apart, AreTallied, stepped_tallied, stepped-fits}
 use Rattle.reader.proofs.Members.{not_unknown, list-there, members_stand, inside, goes_on, member_stands, others_stand}
 use Rattle.checks.proofs.Until.{said, Says, Say, none_left, sought, not_sought}
 use Rattle.checks.proofs.Nodes.{joins, of_members, of_difference}
@@ -27,6 +28,7 @@ use Rattle.checks.proofs.+check_check_members.Invariants.{Going, Done}
 use Rattle.checks.proofs.+check_check_members.Goals as goal
 use Rattle.checks.proofs.+check_check_members.Goals.{check-In-Ok, check-After-read_list-r, check-in-Difference, check-in-Union, check-in-Intersection}
 use Rattle.checks.proofs.+check_check_members.Goals.{check_members-Else-yes-until, check_members-Joined-turned, check_members-in-Still, check_members-in-Moved, check_members-in-Operator, check_members-then-turned+then-left-eq0, check_members-then-turned+else-left-eq0, check_members-else-turned}
+use Rattle.checks.proofs.+check_check_members.Goals.{check_members-else-loop-left-test, check_members-then-loop-left-test+then-yes-until}
 
 -- the same by equal bounds
 said_as : (numbers ends nodes : List ℕ) (d i : ℕ) (rs : model.Readers) (c : Checked) (b z b' z' : Bool) (n n' : ℕ) → b ≡ b' → z ≡ z' → n ≡ n'
@@ -73,12 +75,23 @@ check-read_list-r-requires-clause-k_in_bounds t c = (
   omega (arith, c.from-to.ensures, c.ranges.d.fits),
 )
 
-pub check-take-answer-requires-clause-node_in_bounds : goal.check-take-answer-requires-clause-node_in_bounds
-check-take-answer-requires-clause-node_in_bounds t c = inside c.args.generator.now.ready _ c.requires
+pub check-offset_bounds-readers-node-in-Leaf : goal.check-offset_bounds-readers-node-in-Leaf
+check-offset_bounds-readers-node-in-Leaf t c = omega (arith, inside c.args.generator.now.ready _ c.requires)
+
+pub check-bounds-readers-node-in-Leaf : goal.check-bounds-readers-node-in-Leaf
+check-bounds-readers-node-in-Leaf t c = inside c.args.generator.now.ready _ c.requires
+
+pub check-overflow_add-readers : goal.check-overflow_add-readers
+check-overflow_add-readers t c =
+    omega (arith, stepped-fits (readers_of c.args.start) _ (node_list t (goal.at.check-overflow_add-readers t c).After-read_list-r).of (inside c.args.generator.now.ready _ c.requires) c.args.start.tallied)
+
+pub check-invariant_of-readers : goal.check-invariant_of-readers
+check-invariant_of-readers t c =
+    record { tallied = stepped_tallied (readers_of c.args.start) _ (node_list t (goal.at.check-invariant_of-readers t c).After-read_list-r).of (inside c.args.generator.now.ready _ c.requires) c.args.start.tallied }
 
 pub check-returns-in-Leaf : goal.check-returns-in-Leaf
 check-returns-in-Leaf t c =
-    rw (c.take-answer.ensures.answer, c.take-answer.ensures.readers, c.from-to.ensures) (node_moves t (goal.at.check-returns-in-Leaf t c).After-read_list-r)
+    rw c.from-to.ensures (node_moves t (goal.at.check-returns-in-Leaf t c).After-read_list-r)
 
 pub check-overflow_add-node : goal.check-overflow_add-node
 check-overflow_add-node t c = omega (arith, inside c.args.generator.now.ready _ c.requires)
@@ -135,27 +148,35 @@ module _ (t : ℕ) where
   Turn = check_members-Else-yes-until t
 
   going : (c : Turn) → let g = c.args.generator.now in
-      Going g.numbers.now g.ends.now g.nodes.now c.args.first c.args.count c.args.until c.args.turned c.args.d (readers_of c.args.start) (readers_of c.loop-left.readers) c.loop-left.yes c.loop-left.at c.loop-left.left
-  going c = ⊎_elim (λ w. w) (λ w. absurd (not_both w.so c.if-yes-until.false)) c.loop-left.invariant
+      Going g.numbers.now g.ends.now g.nodes.now c.args.first c.args.count c.args.until c.args.turned c.args.d (readers_of c.args.start) (apart c.loop-left.readers) c.loop-left.yes c.loop-left.at c.loop-left.left
+  going c = ⊎_elim (λ w. w) (λ w. absurd (not_both w.so c.if-yes-until.false)) c.loop-left.invariant.1
 
   this_tree : (c : Turn) → Standing (length c.args.generator.now.ends.now) c.args.generator.now.nodes.now c.loop-left.at
-  this_tree c = member_stands c.args.generator.now.ready _ _ c.loop-left-test.true (going c).stand
+  this_tree c = member_stands c.args.generator.now.ready _ _ (omega (arith, c.loop-left-test.true)) (going c).stand
 
   node-there : (c : Turn) → c.loop-left.at < 48
   node-there c = inside c.args.generator.now.ready _ (this_tree c)
 
   -- the member node has replied: what its check leaves
   member_step : (c : check_members-Joined-turned t) → let g = c.args.generator.now in
-      Says g.numbers.now g.ends.now g.nodes.now c.args.d c.loop-left.at (readers_of c.loop-left.readers) (says c.match-member.yes (readers_of c.match-member.readers))
+      Says g.numbers.now g.ends.now g.nodes.now c.args.d c.loop-left.at (apart c.loop-left.readers) (says c.match-member.yes (apart c.match-member.readers))
   member_step c =
       let to = c.from-to.ensures in
       let low : c.args.d < top = omega (arith, c.ranges.d.fits) in
       let ready = c.args.generator.now.ready in
       elim c.match-member.branch [
         | check_members-in-Still w ↦ rw (w.readers-is, w.yes-is, to) (still ready _ _ low _ _ (rw to at w.in-Still.ensures))
-        | check_members-in-Moved w ↦ rw (w.readers-is, w.yes-is, w.take.ensures.answer, w.take.ensures.readers, to) (moves ready _ _ low _ _ (rw to at w.in-Moved.ensures).1)
+        | check_members-in-Moved w ↦ rw (w.readers-is, w.yes-is, to) (moves ready _ _ low _ _ (rw to at w.in-Moved.ensures).1)
         | check_members-in-Operator w ↦ rw (w.readers-is, w.yes-is) w.check-s.ensures
       ]
+
+  -- and the readers that it leaves are tallied
+  member_tallied : (c : check_members-Joined-turned t) → c.loop-left.at < 48 → AreTallied (apart c.match-member.readers)
+  member_tallied c here = elim c.match-member.branch [
+    | check_members-in-Still w ↦ rw w.readers-is c.loop-left.invariant.0
+    | check_members-in-Moved w ↦ rw w.readers-is (stepped_tallied (apart c.loop-left.readers) _ w.in-Moved.ensures.1.of here c.loop-left.invariant.0)
+    | check_members-in-Operator w ↦ rw w.readers-is w.check-s.result.readers.tallied
+  ]
 
   -- the reply is said turned round where it is the last of those that are
   said-is : (c : check_members-Joined-turned t) → c.if-turned.yes ≡ said c.args.turned c.loop-left.left c.match-member.yes
@@ -166,14 +187,27 @@ module _ (t : ℕ) where
   ]
 
 pub check_members-loop-left-init : goal.check_members-loop-left-init
-check_members-loop-left-init t c = inl (record { not_so = none_yet c.args.until; stand = c.requires; later = omega arith; all_say = λ r on. on })
+check_members-loop-left-init t c = (c.args.start.tallied, inl (record { not_so = none_yet c.args.until; stand = c.requires; later = omega arith; all_say = λ r on. on }))
+
+pub check_members-offset_bounds-readers-at : goal.check_members-offset_bounds-readers-at
+check_members-offset_bounds-readers-at t c = omega (arith, node-there t (goal.at.check_members-offset_bounds-readers-at t c).Else-yes-until)
+
+pub check_members-bounds-readers-at : goal.check_members-bounds-readers-at
+check_members-bounds-readers-at t c = node-there t (goal.at.check_members-bounds-readers-at t c).Else-yes-until
 
 pub check_members-read_member-member-requires : goal.check_members-read_member-member-requires
 check_members-read_member-member-requires t c =
     record { standing = this_tree t (goal.at.check_members-read_member-member-requires t c).Else-yes-until; to_le_top = omega (arith, c.from-to.ensures, c.ranges.d.fits) }
 
-pub check_members-take-requires-clause-node_in_bounds : goal.check_members-take-requires-clause-node_in_bounds
-check_members-take-requires-clause-node_in_bounds t c = node-there t (goal.at.check_members-take-requires-clause-node_in_bounds t c).Else-yes-until
+pub check_members-offset_bounds-readers-at-in-Moved : goal.check_members-offset_bounds-readers-at-in-Moved
+check_members-offset_bounds-readers-at-in-Moved t c = omega (arith, node-there t (goal.at.check_members-offset_bounds-readers-at-in-Moved t c).Else-yes-until)
+
+pub check_members-bounds-readers-at-in-Moved : goal.check_members-bounds-readers-at-in-Moved
+check_members-bounds-readers-at-in-Moved t c = node-there t (goal.at.check_members-bounds-readers-at-in-Moved t c).Else-yes-until
+
+pub check_members-overflow_add-readers : goal.check_members-overflow_add-readers
+check_members-overflow_add-readers t c =
+    omega (arith, stepped-fits (apart c.loop-left.readers) _ c.in-Moved.ensures.1.of (node-there t (goal.at.check_members-overflow_add-readers t c).Else-yes-until) c.loop-left.invariant.0)
 
 pub check_members-check-s-requires : goal.check_members-check-s-requires
 check_members-check-s-requires t c =
@@ -190,15 +224,13 @@ pub check_members-loop-left-preserved : goal.check_members-loop-left-preserved
 check_members-loop-left-preserved t c =
     let l = (goal.at.check_members-loop-left-preserved t c).Else-yes-until in
     let j = (goal.at.check_members-loop-left-preserved t c).Joined-turned in
-    rw (said-is t j) (turns c.args.generator.now.ready _ _ _ _ _ _ _ _ _ _ _ _ c.loop-left-test.true (going t l) (member_step t j))
+    (member_tallied t j (node-there t l), rw (said-is t j) (turns c.args.generator.now.ready _ _ _ _ _ _ _ _ _ _ _ _ (omega (arith, c.loop-left-test.true)) (going t l) (member_step t j)))
 
-pub check_members-returns-after-loop-left : goal.check_members-returns-after-loop-left
-check_members-returns-after-loop-left t c =
-    ⊎_elim
-    (λ w. rw (other c.loop-left.yes c.args.until w.not_so) (w.all_say _ (none_left _ _ _ _ _ _ _ _ _ c.loop-left-test.false)))
-    (λ w. w.say)
-    c.loop-left.invariant
-
-pub check_members-returns-then-yes-until : goal.check_members-returns-then-yes-until
-check_members-returns-then-yes-until t c =
-    ⊎_elim (λ w. absurd (not_both c.if-yes-until.true w.not_so)) (λ w. w.say) c.loop-left.invariant
+pub check_members-returns : goal.check_members-returns
+check_members-returns t c = elim c.loop-left-test.branch [
+  | check_members-else-loop-left-test w ↦ ⊎_elim
+      (λ g. rw (other c.loop-left.yes c.args.until g.not_so) (g.all_say _ (none_left _ _ _ _ _ _ _ _ _ (omega (arith, w.loop-left-test.false)))))
+      (λ g. g.say)
+      c.loop-left.invariant.1
+  | check_members-then-loop-left-test+then-yes-until w ↦ ⊎_elim (λ g. absurd (not_both w.if-yes-until.true g.not_so)) (λ g. g.say) c.loop-left.invariant.1
+]

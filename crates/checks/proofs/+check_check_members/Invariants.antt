@@ -9,7 +9,7 @@ use lib.ListN.{length}
 use Rattle.model.specs.Steps as model
 use Rattle.model.specs.Steps.{Checked, says}
 use Rattle.reader.specs.Rows.{StandingEach}
-use Rattle.reader.specs.Sought.{readers_of}
+use Rattle.reader.proofs.Moves.{apart, AreTallied}
 use Rattle.checks.proofs.Until.{Say}
 use Rattle.checks.proofs.+check_check_members.Given as goal
 
@@ -37,5 +37,6 @@ pub record Done (numbers ends nodes : List ℕ) (first count : ℕ) (until turne
 abbrev pub invariant-check_members-loop-left : goal.invariant-check_members-loop-left
 invariant-check_members-loop-left l =
     let g = l.generator in
-    Going g.numbers.now g.ends.now g.nodes.now l.first l.count l.until l.turned l.d (readers_of l.initial.readers) (readers_of l.readers) l.yes l.at l.left
-    ⊎ Done g.numbers.now g.ends.now g.nodes.now l.first l.count l.until l.turned l.d (readers_of l.initial.readers) (readers_of l.readers) l.yes
+    AreTallied (apart l.readers)
+    × (Going g.numbers.now g.ends.now g.nodes.now l.first l.count l.until l.turned l.d (apart l.initial.readers) (apart l.readers) l.yes l.at l.left
+    ⊎ Done g.numbers.now g.ends.now g.nodes.now l.first l.count l.until l.turned l.d (apart l.initial.readers) (apart l.readers) l.yes)

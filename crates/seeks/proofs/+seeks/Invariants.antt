@@ -2,7 +2,7 @@
 -- for the first of these. Difference and intersection repeat at a higher number. Assumes nothing.
 use Rattle.std.proofs.Common.{ℕ, ◌+◌, ◌-◌, ◌*◌}
 use Rattle.model.specs.Lists.{top}
-use Rattle.reader.specs.Sought.{readers_of}
+use Rattle.reader.proofs.Moves.{apart}
 use Rattle.seeks.proofs.Kept.{Increments, Intersects, Unites}
 use Rattle.seeks.proofs.+seeks.Given as goal
 
@@ -24,7 +24,7 @@ decreases-seek_union l = left_from l.node
 abbrev pub invariant-seek_difference-loop-y : goal.invariant-seek_difference-loop-y
 invariant-seek_difference-loop-y l =
     let g = l.generator in
-    Increments g.numbers.now g.ends.now g.nodes.now l.node (readers_of l.initial.readers) l.initial.x l.initial.y (readers_of l.readers) l.x l.y
+    Increments g.numbers.now g.ends.now g.nodes.now l.node (apart l.initial.readers) l.initial.x l.initial.y (apart l.readers) l.x l.y
 
 abbrev pub decreases-seek_difference-loop-y : goal.decreases-seek_difference-loop-y
 decreases-seek_difference-loop-y l = top - l.x
@@ -32,7 +32,7 @@ decreases-seek_difference-loop-y l = top - l.x
 abbrev pub invariant-seek_intersection-loop-left : goal.invariant-seek_intersection-loop-left
 invariant-seek_intersection-loop-left l =
     let g = l.generator in
-    Intersects g.numbers.now g.ends.now g.nodes.now l.node l.count l.from l.first (readers_of l.initial.readers) (readers_of l.readers) l.candidate l.at l.left
+    Intersects g.numbers.now g.ends.now g.nodes.now l.node l.count l.from l.first (apart l.initial.readers) (apart l.readers) l.candidate l.at l.left
 
 abbrev pub decreases-seek_intersection-loop-left : goal.decreases-seek_intersection-loop-left
 decreases-seek_intersection-loop-left l = (top - l.candidate) * 256 + l.left
@@ -40,4 +40,4 @@ decreases-seek_intersection-loop-left l = (top - l.candidate) * 256 + l.left
 abbrev pub invariant-seek_union-loop : goal.invariant-seek_union-loop
 invariant-seek_union-loop l =
     let g = l.generator in
-    Unites g.numbers.now g.ends.now g.nodes.now l.node l.to (readers_of l.initial.readers) (readers_of l.readers) l.least l.at (l.count - l.counter)
+    Unites g.numbers.now g.ends.now g.nodes.now l.node l.to (apart l.initial.readers) (apart l.readers) l.least l.at (l.count - l.counter)

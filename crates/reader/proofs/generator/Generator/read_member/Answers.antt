@@ -1,13 +1,6 @@
 -- `Generator::read_member` meets its contract: a tree stands at the node, so it is one of the 48, and its list is there. Assumes nothing.
-use native.Mathlib.Omega.{arith}
 use Rattle.reader.proofs.Members.{inside, list-there}
 use Rattle.reader.proofs.generator.Generator.read_member.Goals as goal
-
-pub offset_bounds-readers-node : goal.offset_bounds-readers-node
-offset_bounds-readers-node c = omega (arith, inside c.args.self.now.ready _ c.requires.standing)
-
-pub bounds-readers-node : goal.bounds-readers-node
-bounds-readers-node c = inside c.args.self.now.ready _ c.requires.standing
 
 pub bounds-self-node : goal.bounds-self-node
 bounds-self-node c = inside c.args.self.now.ready _ c.requires.standing
