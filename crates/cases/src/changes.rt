@@ -111,11 +111,9 @@ pub fn change_of(case: u64, l: Lists) -> Change
 }
 
 // A kept row with another number among its members: a neighbour, or the same in 60 of 100 cases.
-fn with_another(case: u64, row: [u32; 520], members: usize) -> [u32; 520]
-    requires { members ≤ 512 }
-{
+fn with_another(case: u64, row: [u32; 520], members: usize) -> [u32; 520] {
     let mut other = row;
-    let at = pick(case, PLACE, 0, members as u64) as usize;
+    let at = pick(case, PLACE, 0, members as u64) as usize % 520;
     other[at] = narrow(nudged(case, CHANGED + 1, u64::from(row[at])));
     other
 }

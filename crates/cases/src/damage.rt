@@ -66,41 +66,66 @@ pub fn damaged(case: u64, b: Bytes) -> Bytes
     }
 }
 
+// The lists with no more of them, and no more numbers in use, than there is room for. Any lists may be handed in; those that `lists`
+// makes fit.
+fn fitted(l: Lists) -> Lists
+    ensures fits { (result.used ≤ 512) × (result.count ≤ 32) }
+    ensures same { (l.used ≤ 512) × (l.count ≤ 32) → (result.used ≡ l.used) × (result.count ≡ l.count) }
+{
+    Lists {
+        used: l.used.min(512),
+        count: l.count.min(32),
+        ..l
+    }
+}
+
 // The lists with two neighbouring ends swapped.
 fn swapped(l: Lists, at: usize) -> Lists
-    requires { at < 31 }
+    ensures fits { (result.used ≤ 512) × (result.count ≤ 32) }
+    ensures same { (l.used ≤ 512) × (l.count ≤ 32) → (result.used ≡ l.used) × (result.count ≡ l.count) }
 {
-    let mut d = l;
-    d.ends.swap(at, at + 1);
+    let mut d = fitted(l);
+    let place = at % 31;
+    d.ends.swap(place, place + 1);
     d
 }
 
 // The lists with another end at a place.
-fn with_end(l: Lists, at: usize, end: u64) -> Lists {
-    let mut d = l;
+fn with_end(l: Lists, at: usize, end: u64) -> Lists
+    ensures fits { (result.used ≤ 512) × (result.count ≤ 32) }
+    ensures same { (l.used ≤ 512) × (l.count ≤ 32) → (result.used ≡ l.used) × (result.count ≡ l.count) }
+{
+    let mut d = fitted(l);
     d.ends[at % 32] = narrow(end);
     d
 }
 
 // The lists with a number so far above the one behind it.
 fn with_number(l: Lists, at: usize, above: u64) -> Lists
-    requires { at < 511 }
+    ensures fits { (result.used ≤ 512) × (result.count ≤ 32) }
+    ensures same { (l.used ≤ 512) × (l.count ≤ 32) → (result.used ≡ l.used) × (result.count ≡ l.count) }
 {
-    let mut d = l;
-    d.numbers[at] = l.numbers[at + 1].wrapping_add(narrow(above));
+    let mut d = fitted(l);
+    let place = at % 511;
+    d.numbers[place] = l.numbers[place + 1].wrapping_add(narrow(above));
     d
 }
 
 // The lists with another word.
-fn with_word(l: Lists, word: u32) -> Lists {
-    let mut d = l;
+fn with_word(l: Lists, word: u32) -> Lists
+    ensures fits { (result.used ≤ 512) × (result.count ≤ 32) }
+    ensures same { (l.used ≤ 512) × (l.count ≤ 32) → (result.used ≡ l.used) × (result.count ≡ l.count) }
+{
+    let mut d = fitted(l);
     d.word = word;
     d
 }
 
 // None of the lists.
-fn emptied(l: Lists) -> Lists {
-    let mut d = l;
+fn emptied(l: Lists) -> Lists
+    ensures { (result.used ≤ 512) × (result.count ≡ 0) }
+{
+    let mut d = fitted(l);
     d.count = 0;
     d
 }
@@ -126,8 +151,9 @@ fn below(case: u64, count: usize) -> usize
 // or above it in 16, no lists in 4, no fault in 6. A fault that hits two equal ends, or numbers of two
 // lists, can leave accepted lists.
 fn damaged_rows(case: u64, l: Lists) -> Lists
-    requires { (l.used ≤ 512) × (l.count ≤ 32) }
+    ensures { (result.used ≤ 512) × (result.count ≤ 32) }
 {
+    let l = fitted(l);
     let r = 1 + roll(case, LISTS, 2) % 4;
     let list = below(case, l.count);
     let old = l.end(list);
@@ -149,23 +175,12 @@ fn damaged_rows(case: u64, l: Lists) -> Lists
 pub fn damaged_lists(case: u64, l: Lists) -> Lists
     ensures { (result.used ≤ 512) × (result.count ≤ 32) }
 {
-    // any lists may be handed in; those that `lists` makes fit
-    let used = l.used.min(512);
-    let l = Lists {
-        used,
-        count: l.count.min(32),
-        ..l
-    };
-    let d = match pick(case, WORD, 0, 100) {
+    let l = fitted(l);
+    match pick(case, WORD, 0, 100) {
         0..12 => with_word(l, turned(l.word, below(case, l.count))),
         12..24 => with_word(l, none_empty(l)),
         24..30 => with_word(l, any_word(case)),
         _ => damaged_rows(case, l),
-    };
-    Lists {
-        used,
-        count: d.count.min(32),
-        ..d
     }
 }
 

@@ -42,7 +42,9 @@ impl Operator {
     }
 
     // The node byte: 64 a difference, 128 and 192 with the number of members a union and an intersection.
-    fn byte(self) -> u8 {
+    fn byte(self) -> u8
+        ensures { result ≤ 200 }
+    {
         match self.kind {
             Kind::Difference => 64,
             Kind::Union => 128 + self.members,
@@ -125,7 +127,7 @@ struct Spot {
 impl Spot {
     // Members of an operator: 1 in 10 of 100, 2 in 40, 3 in 25, 4 in 10, 5 to 8 in 15.
     fn width(&self) -> u8
-        ensures { result ≤ 8 }
+        ensures { (1 ≤ result) × (result ≤ 8) }
     {
         match pick(self.case, WIDTH, self.place, 100) {
             0..10 => 1,
@@ -304,19 +306,22 @@ impl Leaves {
     // One of the lists, which a leaf is to name. A wide intersection goes through the lists in turn.
     fn any(&self, place: u64) -> u64
         requires { place < 48 }
+        ensures { result ≤ 31 }
     {
         let n = self.lists.max(1);
-        match Shape::of(self.case) {
+        let list = match Shape::of(self.case) {
             Shape::Wide => (roll(self.case, LEAF, 1000) + place) % n,
             _ => pick(self.case, LEAF, place, n),
-        }
+        };
+        list % 32
     }
 
     // The list at a leaf: where that one was not delivered, the one that always is.
     fn at(&self, place: u64) -> u8
         requires { place < 48 }
+        ensures { result ≤ 31 }
     {
-        let list = self.any(place) % 32;
+        let list = self.any(place);
         if is_delivered(self.word, list as usize) {
             list as u8
         } else {

@@ -1,31 +1,46 @@
 // A case's expression and lists by way of their stored forms.
+ghost use Rattle.std.specs.Prelude.{◌≡◌, ◌↔◌, IsTrue};
+
 use crate::What;
 use crate::lent::{all_delivered, ends_of, word_there};
 use crate::rows::front;
 use cases::{Bytes, Row};
 use evaluator::Lists;
 
-// A case's expression packed by the engine.
-pub fn packed(row: &Row, lists: &Lists) -> Bytes {
+// A case's expression packed by the engine, and the number that it hands back.
+fn written(row: &Row, lists: &Lists) -> (u32, Bytes) {
     let mut bytes = [0u8; 64];
     let nodes = front(&row.bytes, row.count);
     let written = forms::pack_expression(nodes, lists.count, lists.word, &mut bytes);
-    Bytes {
+    let made = Bytes {
         bytes,
         count: written.count,
-    }
+    };
+    (written.number, made)
+}
+
+// A case's expression packed by the engine.
+pub fn packed(row: &Row, lists: &Lists) -> Bytes {
+    written(row, lists).1
+}
+
+// Whether what is packed is accepted, and what is read back.
+fn both_accept(written: u32, read: u32) -> bool
+    ensures { IsTrue result ↔ ((written ≡ 0) × (read ≡ 0)) }
+{
+    written == 0 && read == 0
 }
 
 // The same, where it is accepted, is packed as the generator packs it, and reads back.
 pub fn pack(row: &Row, lists: &Lists) -> Result<Bytes, What> {
-    let made = packed(row, lists);
+    let (number, made) = written(row, lists);
     let bytes = front(&made.bytes, made.count);
     let nodes = front(&row.bytes, row.count);
     let other = cases::packed(nodes);
     let mut back = [0u8; 48];
     let read = forms::unpack_expression(bytes, lists.count, lists.word, &mut back);
     let alike = bytes == front(&other.bytes, other.count);
-    if made.count != 0 && read.number == 0 && alike && front(&back, read.count) == nodes {
+    if both_accept(number, read.number) && alike && front(&back, read.count) == nodes {
         Ok(made)
     } else {
         Err(What::Expression)

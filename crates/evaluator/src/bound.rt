@@ -97,6 +97,15 @@ fn settled(nodes: &[Node; 48], lengths: [u32; 48]) -> u32 {
     bounds[0]
 }
 
+// The nodes with each operator as a union of as many members: whatever joined them, its bound is their sum.
+fn unions_of(nodes: &[Node; 48]) -> [Node; 48] {
+    let mut unions = *nodes;
+    for node in unions.iter_mut() {
+        *node = node.as_union();
+    }
+    unions
+}
+
 // The bits of a list of so many numbers: its own and its count's, 32 for every number, and the width's where there are two or more.
 fn bits(n: u32) -> usize {
     let width = if 1 < n { 5 } else { 0 };
@@ -121,7 +130,7 @@ pub fn bounds(lists: Lists, packed: &[u8]) -> Result<Bounded, Refusal> {
     let leaves = lengths_of(&all, nodes.read());
     Ok(Bounded {
         members: settled(&nodes.row, leaves),
-        moves: leaves.iter().fold(0, |sum: u32, n| sum.wrapping_add(*n)),
+        moves: settled(&unions_of(&nodes.row), leaves),
         bytes: bytes(&all),
     })
 }

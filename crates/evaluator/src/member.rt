@@ -22,28 +22,29 @@ impl Expression<'_> {
         }
     }
 
-    // Whether x is denoted by a node, of whose members the lowest bits of the stack say it, the first member lowest.
-    fn is_in(&self, node: Node, stack: u64, x: u32) -> bool {
-        match node {
-            Node::List(k) => self.holds(k, x),
-            Node::Difference => stack & 3 == 1,
-            Node::Union(n) => stack & ones(n) != 0,
-            Node::Intersection(n) => stack & ones(n) == ones(n),
+    // Those of the lists that the nodes name that x stands in: bit k for list k. Each is looked up once, however many nodes name it.
+    fn held(&self, x: u32) -> u32 {
+        let mut named = 0;
+        let mut held = 0;
+        for node in self.nodes {
+            if let Node::List(k) = *node {
+                let own = bit(k);
+                if named & own == 0 && self.holds(k, x) {
+                    held |= own;
+                }
+                named |= own;
+            }
         }
-    }
-
-    // The stack after one more node: its members' truth values give way to its own.
-    fn with_node(&self, stack: u64, node: Node, x: u32) -> u64 {
-        let left = stack.wrapping_shr(u32::from(node.members()));
-        left << 1 | u64::from(self.is_in(node, stack, x))
+        held
     }
 
     // Whether x is a member. The nodes are gone over from right to left, so that the members of a node come before it; at most 48
     // truth values are stacked, as the bits of one number.
     pub fn has(&self, x: u32) -> bool {
+        let held = self.held(x);
         let mut stack = 0;
         for node in self.nodes.iter().rev() {
-            stack = self.with_node(stack, *node, x);
+            stack = with_node(stack, *node, held);
         }
         stack & 1 == 1
     }
@@ -67,6 +68,28 @@ impl Expression<'_> {
             None => best,
         }
     }
+}
+
+// Whether a number that stands in these lists, bit k for list k, is denoted by a node, of whose members the lowest bits of the stack
+// say it, the first member lowest.
+fn is_in(node: Node, stack: u64, held: u32) -> bool {
+    match node {
+        Node::List(k) => held & bit(k) != 0,
+        Node::Difference => stack & 3 == 1,
+        Node::Union(n) => stack & ones(n) != 0,
+        Node::Intersection(n) => stack & ones(n) == ones(n),
+    }
+}
+
+// The stack after one more node: its members' truth values give way to its own.
+fn with_node(stack: u64, node: Node, held: u32) -> u64 {
+    let left = stack.wrapping_shr(u32::from(node.members()));
+    left << 1 | u64::from(is_in(node, stack, held))
+}
+
+// The bit of list k.
+fn bit(k: u8) -> u32 {
+    1u32.wrapping_shl(u32::from(k))
 }
 
 // The lowest n bits set.

@@ -1,4 +1,7 @@
 // The packed expression read into its nodes, in expression order.
+ghost use Rattle.std.specs.Prelude.{◌≡◌, ◌<◌, ◌≤◌, ◌+◌, ◌^◌, IfOk, IfErr};
+ghost use Rattle.evaluator.specs.Node.{IsNode, union_of};
+
 use crate::Refusal;
 use crate::lent::Lists;
 
@@ -12,12 +15,25 @@ pub enum Node {
 }
 
 impl Node {
-    // How many members a node has: a list none.
-    pub fn members(self) -> u8 {
+    // How many members a node has, at most 8: a list none.
+    pub fn members(self) -> u8
+        ensures { result ≤ 8 }
+    {
         match self {
             Node::List(_) => 0,
             Node::Difference => 2,
-            Node::Union(n) | Node::Intersection(n) => n,
+            Node::Union(n) | Node::Intersection(n) => n.min(8),
+        }
+    }
+
+    // A list as it is, an operator as a union of as many members.
+    pub fn as_union(self) -> Node
+        ensures { result ≡ union_of self }
+    {
+        match self {
+            Node::List(_) | Node::Union(_) => self,
+            Node::Difference => Node::Union(2),
+            Node::Intersection(n) => Node::Union(n),
         }
     }
 }
@@ -44,25 +60,35 @@ struct Bits<'a> {
 
 impl Bits<'_> {
     // The bit at a position; 0 behind the end.
-    fn bit(&self, at: usize) -> u8 {
+    fn bit(&self, at: usize) -> u8
+        ensures { result < 2 }
+    {
         match self.packed.get(at / 8) {
             Some(byte) => *byte >> (7 - at % 8) & 1,
             None => 0,
         }
     }
 
-    // The field of a few bits at the position.
-    fn field(&self, width: usize) -> u8 {
+    // The field of a few bits at the position. All nodes take at most 48 times 7 bits.
+    fn field(&self, width: usize) -> u8
+        requires { (self.now.at ≤ 400) × (width ≤ 8) }
+        ensures { result < 2 ^ width }
+    {
         let mut read = 0;
         for i in 0..width {
-            read = read << 1 | self.bit(self.at.wrapping_add(i));
+            read = read * 2 + self.bit(self.at + i);
         }
         read
     }
 
     // The next field of a few bits, unless its bits run out.
-    fn take(&mut self, width: usize) -> Result<u8, Refusal> {
-        let end = self.at.wrapping_add(width);
+    fn take(&mut self, width: usize) -> Result<u8, Refusal>
+        requires { (self.old.at ≤ 400) × (width ≤ 8) }
+        ensures field { IfOk result (λ x. x < 2 ^ width) }
+        ensures behind { IfOk result (λ x. self.new.at ≡ self.old.at + width) }
+        ensures stays { IfErr result (λ e. self.new.at ≡ self.old.at) }
+    {
+        let end = self.at + width;
         if self.packed.len() < end.div_ceil(8) {
             return Err(Refusal::BitsRunOut);
         }
@@ -72,17 +98,29 @@ impl Bits<'_> {
     }
 
     // Whether the bits from the position on are fewer than eight and all 0.
-    fn is_fill(&self) -> bool {
+    fn is_fill(&self) -> bool
+        requires { self.now.at ≤ 336 }
+    {
         self.packed.len() == self.at.div_ceil(8) && self.field((8 - self.at % 8) % 8) == 0
     }
 
     // How many members an operator has: the field is one less.
-    fn take_count(&mut self) -> Result<u8, Refusal> {
-        Ok(self.take(3)?.wrapping_add(1))
+    fn take_count(&mut self) -> Result<u8, Refusal>
+        requires { self.old.at ≤ 400 }
+        ensures count { IfOk result (λ n. (1 ≤ n) × (n ≤ 8)) }
+        ensures behind { IfOk result (λ n. self.new.at ≡ self.old.at + 3) }
+        ensures stays { IfErr result (λ e. self.new.at ≡ self.old.at) }
+    {
+        Ok(self.take(3)? + 1)
     }
 
-    // The next node.
-    fn take_node(&mut self, lists: &Lists) -> Result<Node, Refusal> {
+    // The next node, of 2 to 7 bits.
+    fn take_node(&mut self, lists: &Lists) -> Result<Node, Refusal>
+        requires { self.old.at ≤ 336 }
+        ensures node { IfOk result IsNode }
+        ensures least { IfOk result (λ n. self.old.at + 2 ≤ self.new.at) }
+        ensures most { self.new.at ≤ self.old.at + 7 }
+    {
         match self.take(2)? {
             0 => leaf(self.take(5)?, lists),
             1 => Ok(Node::Difference),
@@ -93,7 +131,9 @@ impl Bits<'_> {
 }
 
 // The leaf that names a list, which is there and was delivered.
-fn leaf(list: u8, lists: &Lists) -> Result<Node, Refusal> {
+fn leaf(list: u8, lists: &Lists) -> Result<Node, Refusal>
+    ensures { IfOk result (λ node. node ≡ Node.List list) }
+{
     let k = usize::from(list);
     if lists.count <= k {
         return Err(Refusal::NoSuchList);
@@ -127,13 +167,15 @@ fn open(nodes: &[Node]) -> usize {
 pub fn nodes_of(packed: &[u8], lists: &Lists) -> Result<Nodes, Refusal> {
     let mut row = [Node::List(0); 48];
     let mut bits = Bits { packed, at: 0 };
+    let mut opened = 0;
     for last in 0..48 {
-        if 12 <= open(&row[..last]) {
+        if 12 <= opened {
             return Err(Refusal::TooDeep);
         }
         row[last] = bits.take_node(lists)?;
         let count = last + 1;
-        if open(&row[..count]) == 0 {
+        opened = open(&row[..count]);
+        if opened == 0 {
             return ended(&bits, Nodes { row, count });
         }
     }
@@ -141,7 +183,9 @@ pub fn nodes_of(packed: &[u8], lists: &Lists) -> Result<Nodes, Refusal> {
 }
 
 // What a whole expression comes to.
-fn ended(bits: &Bits, nodes: Nodes) -> Result<Nodes, Refusal> {
+fn ended(bits: &Bits, nodes: Nodes) -> Result<Nodes, Refusal>
+    requires { bits.now.at ≤ 336 }
+{
     if bits.is_fill() {
         Ok(nodes)
     } else {

@@ -17,7 +17,9 @@ impl<'a> Bits<'a> {
     }
 
     // The bit at a position.
-    fn bit(&self, at: usize) -> u32 {
+    fn bit(&self, at: usize) -> u32
+        ensures { result < 2 }
+    {
         match self.row.get(at / 8) {
             Some(byte) => u32::from(*byte >> (7 - at % 8) & 1),
             None => 0,
