@@ -154,7 +154,7 @@ pub moves-few : (places : List ℕ) (moves : ℕ) → Tallied places moves → m
 moves-few places moves t = omega (arith, t.within, rw t.many at (sum_bound places 65535 t.small))
 
 -- a reader comes to a place, by so many moves
-moved_tallied : (places : List ℕ) (moves i place n : ℕ) → Tallied places moves → i < 48 → place ≤ 65535 → get_or places i 0 + n ≤ place → Tallied (set places i place) (moves + n)
+pub moved_tallied : (places : List ℕ) (moves i place n : ℕ) → Tallied places moves → i < 48 → place ≤ 65535 → get_or places i 0 + n ≤ place → Tallied (set places i place) (moves + n)
 moved_tallied places moves i place n t here small within =
     let more : get_or places i 0 + (place - get_or places i 0) ≡ place = omega arith in
     let grown = rw more at (sum-set places i (place - get_or places i 0) (omega (arith, t.many))) in

@@ -1,5 +1,7 @@
 ghost use Rattle.reader.specs.Tally.{Tallied};
 
+use crate::ReadResult;
+
 // The readers of a run, "one place for each of the 48 possible nodes in expression order", and their moves.
 #[derive(Drop)]
 pub struct Readers {
@@ -9,8 +11,8 @@ pub struct Readers {
 }
 
 impl Readers {
-    ghost use Rattle.std.specs.Prelude.{◌≡◌};
-    ghost use Rattle.reader.specs.Sought.{readers_of, none_read};
+    ghost use Rattle.std.specs.Prelude.{◌≡◌, ◌+◌, ◌≤◌, ◌<◌, get_or};
+    ghost use Rattle.reader.specs.Sought.{readers_of, none_read, has_read};
 
     // Every reader at the start of its list.
     pub fn first() -> Self
@@ -20,5 +22,45 @@ impl Readers {
             places: [0; 48],
             moves: 0,
         }
+    }
+
+    // The reader of a node has made a step: it is where that leaves it, and its moves count. Hands back what it answers. For readers of
+    // a caller's own: a run passes its readers by value, as the papers have it, and each operator writes its own copy.
+    pub fn take(&mut self, node: usize, read: ReadResult) -> u64
+        requires node_in_bounds { node < 48 }
+        requires within { get_or self.old.places node 0 + read.moves ≤ read.place }
+        ensures answer { result ≡ read.answer }
+        ensures readers { readers_of self.new ≡ has_read node read (readers_of self.old) }
+    {
+        self.places[node] = read.place;
+        self.moves += read.moves;
+        read.answer
+    }
+}
+
+#[cfg(test)]
+mod tests {
+    use super::*;
+
+    // Node 47 reads to the number 9 at place 5 by two moves, then to the end of its list, at place 7, by one more.
+    #[test]
+    fn takes_two_steps(rt: HostRuntime) {
+        let mut readers = Readers::first();
+        let nine = ReadResult {
+            answer: 9,
+            moves: 2,
+            place: 5,
+        };
+        assert_eq!(rt; readers.take(47, nine), 9);
+        let place = readers.places[47];
+        assert_eq!(rt; (place, readers.moves), (5, 2));
+        let end = ReadResult {
+            answer: crate::FINISHED,
+            moves: 1,
+            place: 7,
+        };
+        assert_eq!(rt; readers.take(47, end), crate::FINISHED);
+        let (behind, place) = (readers.places[46], readers.places[47]);
+        assert_eq!(rt; (behind, place, readers.moves), (0, 7, 3));
     }
 }

@@ -16,12 +16,16 @@ use Rattle.reader.proofs.Moves.{AreTallied}
 use Rattle.reader.proofs.Members.{Comes}
 use Rattle.seeks.proofs.Turns.{holding, holding-turn, going}
 use Rattle.seeks.proofs.Nodes.{uniting, following}
-use Rattle.seeks.proofs.Stepping.{Holds}
+use Rattle.seeks.proofs.Stepping.{Holds, HoldsTallied}
 
 -- the increment of a difference goes on from here as from where it began
 abbrev pub Increments : (numbers ends nodes : List ℕ) → ℕ → Readers → ℕ → ℕ → Readers → ℕ → ℕ → Type 0
 Increments numbers ends nodes node readers₀ x₀ y₀ readers x y =
     Holds numbers ends nodes node x₀ (λ u. holding (seek_tree (lists_from numbers 0 ends) u node) x₀ y₀ readers₀) x y readers
+
+abbrev pub IncrementsTallied : (numbers ends nodes : List ℕ) → ℕ → Readers → ℕ → ℕ → Readers → ℕ → ℕ → Type 0
+IncrementsTallied numbers ends nodes node readers₀ x₀ y₀ readers x y =
+    HoldsTallied numbers ends nodes node x₀ (λ u. holding (seek_tree (lists_from numbers 0 ends) u node) x₀ y₀ readers₀) x y readers
 
 -- the seek of any tree that stands at the node, from here, is what it was from the start
 abbrev pub Same : (numbers ends nodes : List ℕ) → ℕ → ℕ → Readers → ℕ → Readers → Type 0
@@ -77,6 +81,11 @@ increments numbers ends nodes node readers₀ x₀ y₀ readers x y inv same nex
   above = omega (arith, inv.above, h.above);
   low = h.low;
   not_finished = h.not_finished;
-  tallied = h.tallied;
   goes_on = λ u s. h.goes_on u s ∙ sym (holding-turn _ _ _ _ same) ∙ inv.goes_on u s;
 }
+
+pub increments_tallied : (numbers ends nodes : List ℕ) (node : ℕ) (readers₀ : Readers) (x₀ y₀ : ℕ) (readers : Readers) (x y : ℕ) → IncrementsTallied numbers ends nodes node readers₀ x₀ y₀ readers x y → y ≡ x
+    → (next y' : ℕ) (last : Readers) → HoldsTallied numbers ends nodes node (x + 1) (λ u. seek_tree (lists_from numbers 0 ends) u node (x + 1) readers) next y' last
+    → IncrementsTallied numbers ends nodes node readers₀ x₀ y₀ last next y'
+increments_tallied numbers ends nodes node readers₀ x₀ y₀ readers x y inv same next y' last h =
+    record { holds = increments numbers ends nodes node readers₀ x₀ y₀ readers x y inv.holds same next y' last h.holds; tallied = h.tallied }

@@ -1,5 +1,5 @@
 -- The step of a member node in its operator's own copy of the readers: what it leaves is what the seek of that node leaves. And where
--- a difference stands after two such steps. Assumes nothing.
+-- a difference stands after two such steps. Both of any readers, then of readers that are tallied. Assumes nothing.
 use mathlib.Core.Path.{◌≡◌, refl, ◌∙◌}
 use mathlib.Core.List.{List}
 use Prim.Native.Nat.{ℕ, ◌+◌, ◌≤◌, ◌<◌}
@@ -24,27 +24,21 @@ use Rattle.seeks.proofs.Nodes.{read_is, both-ended, both-held}
 pub record Leaves (numbers ends nodes : List ℕ) (i e : ℕ) (start : Readers) (x : ℕ) (after : Readers) : Type 0 where
   pub above : e ≤ x
   pub low : x ≤ top
-  pub tallied : AreTallied after
   pub finds : (u : Tree) → Stands (length ends) nodes u i → found x after ≡ seek (lists_from numbers 0 ends) u i e start
 
-module _ (numbers ends nodes : List ℕ) (i e : ℕ) (start : Readers) (t : AreTallied start) where
+module _ (numbers ends nodes : List ℕ) (i e : ℕ) (start : Readers) where
   -- a list, whose reader stays
   pub still : (x : ℕ) → Named numbers ends (get_or nodes i 0) (λ l. Stays l (get_or start.places i 0) e x) → Leaves numbers ends nodes i e start x start
-  still x n = record { above = n.of.above; low = n.of.low; tallied = t; finds = read_is numbers ends nodes i n.list n.named e start _ (n.of.is i start refl) }
+  still x n = record { above = n.of.above; low = n.of.low; finds = read_is numbers ends nodes i n.list n.named e start _ (n.of.is i start refl) }
 
   -- a list, whose reader moves
-  pub moves : (r : ReadResult) → i < 48 → Named numbers ends (get_or nodes i 0) (λ l. Read l (get_or start.places i 0) e r) → Leaves numbers ends nodes i e start r.answer (has_read i r start)
-  moves r here n = record {
-    above = n.of.above;
-    low = n.of.low;
-    tallied = stepped_tallied start i n.of here t;
-    finds = read_is numbers ends nodes i n.list n.named e start _ (n.of.is i start refl);
-  }
+  pub moves : (r : ReadResult) → Named numbers ends (get_or nodes i 0) (λ l. Read l (get_or start.places i 0) e r) → Leaves numbers ends nodes i e start r.answer (has_read i r start)
+  moves r n = record { above = n.of.above; low = n.of.low; finds = read_is numbers ends nodes i n.list n.named e start _ (n.of.is i start refl) }
 
 -- an operator, which is sought
 pub left_by : {numbers ends nodes : List ℕ} {i e : ℕ} {start : Readers} {r : SeekResult} → Sound e r
     → ((u : Tree) → Stands (length ends) nodes u i → found_of r ≡ seek (lists_from numbers 0 ends) u i e start) → Leaves numbers ends nodes i e start r.answer (readers_of r.readers)
-left_by {r = r} sound finds = record { above = sound.above; low = sound.low; tallied = r.readers.tallied; finds = finds }
+left_by sound finds = record { above = sound.above; low = sound.low; finds = finds }
 
 -- where a difference stands after a step (a) and a step (b): its first's answer x, not below e, its second's answer y or, where the
 -- first has finished, anything below x, and the readers; it goes on from there to f, whatever tree stands at the node
@@ -52,11 +46,10 @@ pub record Holds (numbers ends nodes : List ℕ) (node e : ℕ) (f : Tree → Fo
   pub above : e ≤ x
   pub low : x ≤ top
   pub not_finished : y ≡ x → x < top
-  pub tallied : AreTallied after
   pub goes_on : (u : Tree) → Stands (length ends) nodes u node → holding (seek (lists_from numbers 0 ends) u node) x y after ≡ f u
 
 module _ (numbers ends nodes behind : List ℕ) (n : Numbers numbers) (r : Ready numbers ends nodes behind) (node : ℕ) (k : node_of (get_or nodes node 0) ≡ accepted Difference)
-    (e : ℕ) (low : e ≤ top) (start : Readers) (t : AreTallied start) (x : ℕ) (after : Readers) (a : Leaves numbers ends nodes (node + 1) e start x after) where
+    (e : ℕ) (low : e ≤ top) (start : Readers) (long : length start.places ≡ 48) (x : ℕ) (after : Readers) (a : Leaves numbers ends nodes (node + 1) e start x after) where
   -- the seek to e
   abbrev sought : Tree → Found
   sought u = seek (lists_from numbers 0 ends) u node e start
@@ -67,9 +60,8 @@ module _ (numbers ends nodes behind : List ℕ) (n : Numbers numbers) (r : Ready
     above = a.above;
     low = a.low;
     not_finished = λ same. absurd (omega (arith, same, apart));
-    tallied = a.tallied;
     goes_on = λ u s. let p = pair r node k u s in
-        holding_stop _ x y _ (λ same. omega (arith, same, apart)) ∙ both-ended numbers ends nodes behind n r node u p s e _ low t.many x _ (a.finds p.first p.first_at) h;
+        holding_stop _ x y _ (λ same. omega (arith, same, apart)) ∙ both-ended numbers ends nodes behind n r node u p s e _ low long x _ (a.finds p.first p.first_at) h;
   }
 
   -- the second has answered
@@ -78,7 +70,38 @@ module _ (numbers ends nodes behind : List ℕ) (n : Numbers numbers) (r : Ready
     above = a.above;
     low = a.low;
     not_finished = λ same. h;
-    tallied = b.tallied;
     goes_on = λ u s. let p = pair r node k u s in
-        both-held numbers ends nodes behind n r node u p s e _ low t.many x _ (a.finds p.first p.first_at) h y _ (b.finds p.second p.second_at);
+        both-held numbers ends nodes behind n r node u p s e _ low long x _ (a.finds p.first p.first_at) h y _ (b.finds p.second p.second_at);
   }
+
+-- ---- readers that are tallied stay so
+
+-- what that seek leaves, and tallied readers
+pub record LeavesTallied (numbers ends nodes : List ℕ) (i e : ℕ) (start : Readers) (x : ℕ) (after : Readers) : Type 0 where
+  pub leaves : Leaves numbers ends nodes i e start x after
+  pub tallied : AreTallied after
+
+module _ (numbers ends nodes : List ℕ) (i e : ℕ) (start : Readers) (t : AreTallied start) where
+  pub still_tallied : (x : ℕ) → Named numbers ends (get_or nodes i 0) (λ l. Stays l (get_or start.places i 0) e x) → LeavesTallied numbers ends nodes i e start x start
+  still_tallied x n = record { leaves = still numbers ends nodes i e start x n; tallied = t }
+
+  pub moves_tallied : (r : ReadResult) → i < 48 → Named numbers ends (get_or nodes i 0) (λ l. Read l (get_or start.places i 0) e r) → LeavesTallied numbers ends nodes i e start r.answer (has_read i r start)
+  moves_tallied r here n = record { leaves = moves numbers ends nodes i e start r n; tallied = stepped_tallied start i n.of here t }
+
+pub left_tallied : {numbers ends nodes : List ℕ} {i e : ℕ} {start : Readers} {r : SeekResult} → Sound e r
+    → ((u : Tree) → Stands (length ends) nodes u i → found_of r ≡ seek (lists_from numbers 0 ends) u i e start) → LeavesTallied numbers ends nodes i e start r.answer (readers_of r.readers)
+left_tallied {r = r} sound finds = record { leaves = left_by sound finds; tallied = r.readers.tallied }
+
+-- where the difference stands, and tallied readers
+pub record HoldsTallied (numbers ends nodes : List ℕ) (node e : ℕ) (f : Tree → Found) (x y : ℕ) (after : Readers) : Type 0 where
+  pub holds : Holds numbers ends nodes node e f x y after
+  pub tallied : AreTallied after
+
+module _ (numbers ends nodes behind : List ℕ) (n : Numbers numbers) (r : Ready numbers ends nodes behind) (node : ℕ) (k : node_of (get_or nodes node 0) ≡ accepted Difference)
+    (e : ℕ) (low : e ≤ top) (start : Readers) (t : AreTallied start) (x : ℕ) (after : Readers) (a : LeavesTallied numbers ends nodes (node + 1) e start x after) where
+  pub ended_tallied : (y : ℕ) → top ≤ x → y < x → HoldsTallied numbers ends nodes node e (λ u. seek (lists_from numbers 0 ends) u node e start) x y after
+  ended_tallied y h apart = record { holds = holds_ended numbers ends nodes behind n r node k e low start t.many x after a.leaves y h apart; tallied = a.tallied }
+
+  pub both_tallied : x < top → (y : ℕ) (last : Readers) → LeavesTallied numbers ends nodes (get_or behind (node + 1) 0) x after y last
+      → HoldsTallied numbers ends nodes node e (λ u. seek (lists_from numbers 0 ends) u node e start) x y last
+  both_tallied h y last b = record { holds = holds_both numbers ends nodes behind n r node k e low start t.many x after a.leaves h y last b.leaves; tallied = b.tallied }

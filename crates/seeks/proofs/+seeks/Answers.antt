@@ -18,8 +18,8 @@ use Rattle.reader.proofs.Moves.{apart, stepped_tallied, stepped-fits}
 use Rattle.reader.proofs.Members.{not_unknown, list-there, first_stands, second_stands, members_stand, inside, goes_on, member_stands, others_stand, Comes}
 use Rattle.seeks.proofs.Turns.{holding_stop, going-none, going_stop, going-turn, again_above, again_else}
 use Rattle.seeks.proofs.Nodes.{following, every, every-ended, every-begun, unite, unites_last, unites_on, follows_last, follows_stop, follows_on}
-use Rattle.seeks.proofs.Stepping.{Leaves, still, moves, left_by, Holds, holds_ended, holds_both}
-use Rattle.seeks.proofs.Kept.{Increments, next_low, increments, Within}
+use Rattle.seeks.proofs.Stepping.{LeavesTallied, still_tallied, moves_tallied, left_tallied, HoldsTallied, ended_tallied, both_tallied}
+use Rattle.seeks.proofs.Kept.{IncrementsTallied, next_low, increments_tallied, Within}
 use Rattle.seeks.proofs.+seeks.Goals as goal
 use Rattle.seeks.proofs.+seeks.Goals.{seek-After-read_list-r}
 use Rattle.seeks.proofs.+seeks.Goals.{seek_difference-Joined-member, seek_difference-in-Still, seek_difference-in-Moved, seek_difference-in-Operator}
@@ -69,7 +69,7 @@ seek-invariant_of-readers t c =
 
 pub seek-returns-in-Leaf-clause-finds : goal.seek-returns-in-Leaf-clause-finds
 seek-returns-in-Leaf-clause-finds t c =
-    (moves _ _ _ _ _ (readers_of c.args.start) c.args.start.tallied _ (inside c.args.generator.now.ready _ c.requires.standing) (node_list t (goal.at.seek-returns-in-Leaf-clause-finds t c).After-read_list-r)).finds
+    (moves_tallied _ _ _ _ _ (readers_of c.args.start) c.args.start.tallied _ (inside c.args.generator.now.ready _ c.requires.standing) (node_list t (goal.at.seek-returns-in-Leaf-clause-finds t c).After-read_list-r)).leaves.finds
 
 -- ---- a difference
 
@@ -83,47 +83,47 @@ module _ {numbers ends nodes behind : List ℕ} (ready : Ready numbers ends node
 module _ (t : ℕ) where
   -- A3(2)(a): the first has been sought to E
   first_sought : (c : seek_difference-Joined-member t) → let g = c.args.generator.now in
-      Leaves g.numbers.now g.ends.now g.nodes.now (c.args.node + 1) c.args.from (readers_of c.args.start) c.match-member.x (apart c.match-member.readers)
+      LeavesTallied g.numbers.now g.ends.now g.nodes.now (c.args.node + 1) c.args.from (readers_of c.args.start) c.match-member.x (apart c.match-member.readers)
   first_sought c = elim c.match-member.branch [
-    | seek_difference-in-Still w ↦ rw (w.x-is, w.readers-is) (still _ _ _ _ _ _ c.args.start.tallied _ w.in-Still.ensures)
-    | seek_difference-in-Moved w ↦ rw (w.x-is, w.readers-is) (moves _ _ _ _ _ _ c.args.start.tallied _ (first_inside c.args.generator.now.ready _ c.requires.node_value c.requires.standing) w.in-Moved.ensures.1)
-    | seek_difference-in-Operator w ↦ rw (w.x-is, w.readers-is) (left_by w.seek-s.ensures.sound w.seek-s.ensures.finds)
+    | seek_difference-in-Still w ↦ rw (w.x-is, w.readers-is) (still_tallied _ _ _ _ _ _ c.args.start.tallied _ w.in-Still.ensures)
+    | seek_difference-in-Moved w ↦ rw (w.x-is, w.readers-is) (moves_tallied _ _ _ _ _ _ c.args.start.tallied _ (first_inside c.args.generator.now.ready _ c.requires.node_value c.requires.standing) w.in-Moved.ensures.1)
+    | seek_difference-in-Operator w ↦ rw (w.x-is, w.readers-is) (left_tallied w.seek-s.ensures.sound w.seek-s.ensures.finds)
   ]
 
   -- A3(2)(b): and the second to that answer
   both_sought : (c : seek_difference-Joined-x-ne-FINISHED t) → let g = c.args.generator.now in
-      Leaves g.numbers.now g.ends.now g.nodes.now (c.args.node + 1) c.args.from (readers_of c.args.start) c.match-member.x (apart c.match-member.readers) →
-      Holds g.numbers.now g.ends.now g.nodes.now c.args.node c.args.from (λ u. seek_tree (lists_from g.numbers.now 0 g.ends.now) u c.args.node c.args.from (readers_of c.args.start)) c.match-member.x c.if-x-ne-FINISHED.y (apart c.if-x-ne-FINISHED.readers)
+      LeavesTallied g.numbers.now g.ends.now g.nodes.now (c.args.node + 1) c.args.from (readers_of c.args.start) c.match-member.x (apart c.match-member.readers) →
+      HoldsTallied g.numbers.now g.ends.now g.nodes.now c.args.node c.args.from (λ u. seek_tree (lists_from g.numbers.now 0 g.ends.now) u c.args.node c.args.from (readers_of c.args.start)) c.match-member.x c.if-x-ne-FINISHED.y (apart c.if-x-ne-FINISHED.readers)
   both_sought c f =
       let g = c.args.generator.now in
-      let ended = holds_ended _ _ _ _ g.fit g.ready c.args.node c.requires.node_value c.args.from c.requires.from_le_top (readers_of c.args.start) c.args.start.tallied _ _ f in
-      let both = holds_both _ _ _ _ g.fit g.ready c.args.node c.requires.node_value c.args.from c.requires.from_le_top (readers_of c.args.start) c.args.start.tallied _ _ f in
+      let ended = ended_tallied _ _ _ _ g.fit g.ready c.args.node c.requires.node_value c.args.from c.requires.from_le_top (readers_of c.args.start) c.args.start.tallied _ _ f in
+      let both = both_tallied _ _ _ _ g.fit g.ready c.args.node c.requires.node_value c.args.from c.requires.from_le_top (readers_of c.args.start) c.args.start.tallied _ _ f in
       elim c.if-x-ne-FINISHED.branch [
-        | seek_difference-then-x-ne-FINISHED+in-Still-member w ↦ rw (w.y-is, w.readers-is) (both (omega (arith, f.low, w.if-x-ne-FINISHED.true)) _ _ (still _ _ _ _ _ _ f.tallied _ w.in-Still-member.ensures))
-        | seek_difference-then-x-ne-FINISHED+in-Moved-member w ↦ rw (w.y-is, w.readers-is) (both (omega (arith, f.low, w.if-x-ne-FINISHED.true)) _ _ (moves _ _ _ _ _ _ f.tallied _ (second_inside c.args.generator.now.ready _ c.requires.node_value c.requires.standing) w.in-Moved-member.ensures.1))
-        | seek_difference-then-x-ne-FINISHED+in-Operator-member w ↦ rw (w.y-is, w.readers-is) (both (omega (arith, f.low, w.if-x-ne-FINISHED.true)) _ _ (left_by w.seek-s-in-Operator-member.ensures.sound w.seek-s-in-Operator-member.ensures.finds))
+        | seek_difference-then-x-ne-FINISHED+in-Still-member w ↦ rw (w.y-is, w.readers-is) (both (omega (arith, f.leaves.low, w.if-x-ne-FINISHED.true)) _ _ (still_tallied _ _ _ _ _ _ f.tallied _ w.in-Still-member.ensures))
+        | seek_difference-then-x-ne-FINISHED+in-Moved-member w ↦ rw (w.y-is, w.readers-is) (both (omega (arith, f.leaves.low, w.if-x-ne-FINISHED.true)) _ _ (moves_tallied _ _ _ _ _ _ f.tallied _ (second_inside c.args.generator.now.ready _ c.requires.node_value c.requires.standing) w.in-Moved-member.ensures.1))
+        | seek_difference-then-x-ne-FINISHED+in-Operator-member w ↦ rw (w.y-is, w.readers-is) (both (omega (arith, f.leaves.low, w.if-x-ne-FINISHED.true)) _ _ (left_tallied w.seek-s-in-Operator-member.ensures.sound w.seek-s-in-Operator-member.ensures.finds))
         | seek_difference-else-x-ne-FINISHED w ↦ rw (w.y-is, w.readers-is) (ended _ (omega (arith, w.if-x-ne-FINISHED.false)) (omega (arith, w.if-x-ne-FINISHED.false)))
       ]
 
   -- A2(2)(a): the first has been sought past its answer
   next_sought : (c : seek_difference-Joined-member-3 t) → let g = c.args.generator.now in
-      Leaves g.numbers.now g.ends.now g.nodes.now (c.args.node + 1) (c.loop-y.x + 1) (apart c.loop-y.readers) c.match-member-3.next (apart c.match-member-3.readers)
+      LeavesTallied g.numbers.now g.ends.now g.nodes.now (c.args.node + 1) (c.loop-y.x + 1) (apart c.loop-y.readers) c.match-member-3.next (apart c.match-member-3.readers)
   next_sought c = elim c.match-member-3.branch [
-    | seek_difference-in-Still-member-2 w ↦ rw (w.next-is, w.readers-is) (still _ _ _ _ _ _ c.loop-y.invariant.tallied _ w.in-Still-member-2.ensures)
-    | seek_difference-in-Moved-member-2 w ↦ rw (w.next-is, w.readers-is) (moves _ _ _ _ _ _ c.loop-y.invariant.tallied _ (first_inside c.args.generator.now.ready _ c.requires.node_value c.requires.standing) w.in-Moved-member-2.ensures.1)
-    | seek_difference-in-Operator-member-2 w ↦ rw (w.next-is, w.readers-is) (left_by w.seek-s-in-Operator-member-2.ensures.sound w.seek-s-in-Operator-member-2.ensures.finds)
+    | seek_difference-in-Still-member-2 w ↦ rw (w.next-is, w.readers-is) (still_tallied _ _ _ _ _ _ c.loop-y.invariant.tallied _ w.in-Still-member-2.ensures)
+    | seek_difference-in-Moved-member-2 w ↦ rw (w.next-is, w.readers-is) (moves_tallied _ _ _ _ _ _ c.loop-y.invariant.tallied _ (first_inside c.args.generator.now.ready _ c.requires.node_value c.requires.standing) w.in-Moved-member-2.ensures.1)
+    | seek_difference-in-Operator-member-2 w ↦ rw (w.next-is, w.readers-is) (left_tallied w.seek-s-in-Operator-member-2.ensures.sound w.seek-s-in-Operator-member-2.ensures.finds)
   ]
 
   -- A2(2)(b): and the second to that, where the first has not finished, or is not asked
   module _ (c : seek_difference-Joined-member-3 t) where
     again_sought : (y : ℕ) (last : Readers)
-        → Leaves c.args.generator.now.numbers.now c.args.generator.now.ends.now c.args.generator.now.nodes.now (get_or c.args.generator.now.behind.now (c.args.node + 1) 0) c.match-member-3.next (apart c.match-member-3.readers) y last
+        → LeavesTallied c.args.generator.now.numbers.now c.args.generator.now.ends.now c.args.generator.now.nodes.now (get_or c.args.generator.now.behind.now (c.args.node + 1) 0) c.match-member-3.next (apart c.match-member-3.readers) y last
         → c.match-member-3.next < top
-        → Increments c.args.generator.now.numbers.now c.args.generator.now.ends.now c.args.generator.now.nodes.now c.args.node (apart c.if-x-ne-FINISHED.readers) c.match-member.x c.if-x-ne-FINISHED.y last c.match-member-3.next y
+        → IncrementsTallied c.args.generator.now.numbers.now c.args.generator.now.ends.now c.args.generator.now.nodes.now c.args.node (apart c.if-x-ne-FINISHED.readers) c.match-member.x c.if-x-ne-FINISHED.y last c.match-member-3.next y
     again_sought y last second low =
         let g = c.args.generator.now in
-        increments _ _ _ _ _ _ _ _ _ _ c.loop-y.invariant c.loop-y-test.true _ _ _
-        (holds_both _ _ _ _ g.fit g.ready c.args.node c.requires.node_value (c.loop-y.x + 1) (next_low c.loop-y.invariant c.loop-y-test.true) _ c.loop-y.invariant.tallied _ _ (next_sought c) low y last second)
+        increments_tallied _ _ _ _ _ _ _ _ _ _ c.loop-y.invariant c.loop-y-test.true _ _ _
+        (both_tallied _ _ _ _ g.fit g.ready c.args.node c.requires.node_value (c.loop-y.x + 1) (next_low c.loop-y.invariant.holds c.loop-y-test.true) _ c.loop-y.invariant.tallied _ _ (next_sought c) low y last second)
 
 pub seek_difference-overflow_add-first : goal.seek_difference-overflow_add-first
 seek_difference-overflow_add-first t c = omega (arith, inside c.args.generator.now.ready _ c.requires.standing)
@@ -181,14 +181,14 @@ seek_difference-invariant_of-readers-in-Operator-member t c = record { tallied =
 pub seek_difference-seek-s-requires-in-Operator-member : goal.seek_difference-seek-s-requires-in-Operator-member
 seek_difference-seek-s-requires-in-Operator-member t c = (
   omega (arith, second_inside c.args.generator.now.ready _ c.requires.node_value c.requires.standing, goes_on c.args.generator.now.ready _ (first_stands c.args.generator.now.ready _ c.requires.node_value c.requires.standing)),
-  (second_stands c.args.generator.now.ready _ c.requires.node_value c.requires.standing, (first_sought t (goal.at.seek_difference-seek-s-requires-in-Operator-member t c).Joined-member).low),
+  (second_stands c.args.generator.now.ready _ c.requires.node_value c.requires.standing, (first_sought t (goal.at.seek_difference-seek-s-requires-in-Operator-member t c).Joined-member).leaves.low),
 )
 
 pub seek_difference-loop-y-init : goal.seek_difference-loop-y-init
 seek_difference-loop-y-init t c =
     let w = goal.at.seek_difference-loop-y-init t c in
     let h = both_sought t w.Joined-x-ne-FINISHED (first_sought t w.Joined-member) in
-    record { above = omega arith; low = h.low; not_finished = h.not_finished; tallied = h.tallied; goes_on = λ u s. refl }
+    record { holds = record { above = omega arith; low = h.holds.low; not_finished = h.holds.not_finished; goes_on = λ u s. refl }; tallied = h.tallied }
 
 pub seek_difference-offset_bounds-readers-first-in-loop-y : goal.seek_difference-offset_bounds-readers-first-in-loop-y
 seek_difference-offset_bounds-readers-first-in-loop-y t c = omega (arith, first_inside c.args.generator.now.ready _ c.requires.node_value c.requires.standing)
@@ -210,7 +210,7 @@ seek_difference-overflow_add-readers-in-Moved-member-2 t c = omega (arith, stepp
 
 pub seek_difference-seek-s-requires-in-Operator-member-2 : goal.seek_difference-seek-s-requires-in-Operator-member-2
 seek_difference-seek-s-requires-in-Operator-member-2 t c =
-    (omega (arith, first_inside c.args.generator.now.ready _ c.requires.node_value c.requires.standing), (first_stands c.args.generator.now.ready _ c.requires.node_value c.requires.standing, next_low c.loop-y.invariant c.loop-y-test.true))
+    (omega (arith, first_inside c.args.generator.now.ready _ c.requires.node_value c.requires.standing), (first_stands c.args.generator.now.ready _ c.requires.node_value c.requires.standing, next_low c.loop-y.invariant.holds c.loop-y-test.true))
 
 pub seek_difference-offset_bounds-readers-second-then-next-ne-FINISHED : goal.seek_difference-offset_bounds-readers-second-then-next-ne-FINISHED
 seek_difference-offset_bounds-readers-second-then-next-ne-FINISHED t c = omega (arith, second_inside c.args.generator.now.ready _ c.requires.node_value c.requires.standing)
@@ -221,7 +221,7 @@ seek_difference-bounds-readers-second-then-next-ne-FINISHED t c = second_inside 
 pub seek_difference-read_member-member-requires-then-next-ne-FINISHED : goal.seek_difference-read_member-member-requires-then-next-ne-FINISHED
 seek_difference-read_member-member-requires-then-next-ne-FINISHED t c = record {
   standing = second_stands c.args.generator.now.ready _ c.requires.node_value c.requires.standing;
-  to_le_top = (next_sought t (goal.at.seek_difference-read_member-member-requires-then-next-ne-FINISHED t c).Joined-member-3).low;
+  to_le_top = (next_sought t (goal.at.seek_difference-read_member-member-requires-then-next-ne-FINISHED t c).Joined-member-3).leaves.low;
 }
 
 pub seek_difference-offset_bounds-readers-second-in-Moved-member-3 : goal.seek_difference-offset_bounds-readers-second-in-Moved-member-3
@@ -240,37 +240,37 @@ seek_difference-invariant_of-readers-in-Operator-member-3 t c = record { tallied
 pub seek_difference-seek-s-requires-in-Operator-member-3 : goal.seek_difference-seek-s-requires-in-Operator-member-3
 seek_difference-seek-s-requires-in-Operator-member-3 t c = (
   omega (arith, second_inside c.args.generator.now.ready _ c.requires.node_value c.requires.standing, goes_on c.args.generator.now.ready _ (first_stands c.args.generator.now.ready _ c.requires.node_value c.requires.standing)),
-  (second_stands c.args.generator.now.ready _ c.requires.node_value c.requires.standing, (next_sought t (goal.at.seek_difference-seek-s-requires-in-Operator-member-3 t c).Joined-member-3).low),
+  (second_stands c.args.generator.now.ready _ c.requires.node_value c.requires.standing, (next_sought t (goal.at.seek_difference-seek-s-requires-in-Operator-member-3 t c).Joined-member-3).leaves.low),
 )
 
 pub seek_difference-loop-y-preserved-in-Still-member-3 : goal.seek_difference-loop-y-preserved-in-Still-member-3
 seek_difference-loop-y-preserved-in-Still-member-3 t c =
     let w = (goal.at.seek_difference-loop-y-preserved-in-Still-member-3 t c).Joined-member-3 in
-    again_sought t w _ _ (still _ _ _ _ _ _ (next_sought t w).tallied _ c.in-Still-member-3.ensures) (omega (arith, (next_sought t w).low, c.if-next-ne-FINISHED.true))
+    again_sought t w _ _ (still_tallied _ _ _ _ _ _ (next_sought t w).tallied _ c.in-Still-member-3.ensures) (omega (arith, (next_sought t w).leaves.low, c.if-next-ne-FINISHED.true))
 
 pub seek_difference-loop-y-preserved-in-Moved-member-3 : goal.seek_difference-loop-y-preserved-in-Moved-member-3
 seek_difference-loop-y-preserved-in-Moved-member-3 t c =
     let w = (goal.at.seek_difference-loop-y-preserved-in-Moved-member-3 t c).Joined-member-3 in
-    again_sought t w _ _ (moves _ _ _ _ _ _ (next_sought t w).tallied _ (second_inside c.args.generator.now.ready _ c.requires.node_value c.requires.standing) c.in-Moved-member-3.ensures.1) (omega (arith, (next_sought t w).low, c.if-next-ne-FINISHED.true))
+    again_sought t w _ _ (moves_tallied _ _ _ _ _ _ (next_sought t w).tallied _ (second_inside c.args.generator.now.ready _ c.requires.node_value c.requires.standing) c.in-Moved-member-3.ensures.1) (omega (arith, (next_sought t w).leaves.low, c.if-next-ne-FINISHED.true))
 
 pub seek_difference-loop-y-preserved-in-Operator-member-3 : goal.seek_difference-loop-y-preserved-in-Operator-member-3
 seek_difference-loop-y-preserved-in-Operator-member-3 t c =
     let w = (goal.at.seek_difference-loop-y-preserved-in-Operator-member-3 t c).Joined-member-3 in
-    again_sought t w _ _ (left_by c.seek-s-in-Operator-member-3.ensures.sound c.seek-s-in-Operator-member-3.ensures.finds) (omega (arith, (next_sought t w).low, c.if-next-ne-FINISHED.true))
+    again_sought t w _ _ (left_tallied c.seek-s-in-Operator-member-3.ensures.sound c.seek-s-in-Operator-member-3.ensures.finds) (omega (arith, (next_sought t w).leaves.low, c.if-next-ne-FINISHED.true))
 
 pub seek_difference-loop-y-preserved : goal.seek_difference-loop-y-preserved
 seek_difference-loop-y-preserved t c =
     let g = c.args.generator.now in
-    let low : c.loop-y.x + 1 ≤ top = next_low c.loop-y.invariant c.loop-y-test.true in
+    let low : c.loop-y.x + 1 ≤ top = next_low c.loop-y.invariant.holds c.loop-y-test.true in
     let w = (goal.at.seek_difference-loop-y-preserved t c).Joined-member-3 in
-    increments _ _ _ _ _ _ _ _ _ _ c.loop-y.invariant c.loop-y-test.true _ _ _
-    (holds_ended _ _ _ _ g.fit g.ready c.args.node c.requires.node_value (c.loop-y.x + 1) low _ c.loop-y.invariant.tallied _ _ (next_sought t w) _ (omega (arith, c.if-next-ne-FINISHED.false)) (omega (arith, c.if-next-ne-FINISHED.false, c.loop-y-test.true, low)))
+    increments_tallied _ _ _ _ _ _ _ _ _ _ c.loop-y.invariant c.loop-y-test.true _ _ _
+    (ended_tallied _ _ _ _ g.fit g.ready c.args.node c.requires.node_value (c.loop-y.x + 1) low _ c.loop-y.invariant.tallied _ _ (next_sought t w) _ (omega (arith, c.if-next-ne-FINISHED.false)) (omega (arith, c.if-next-ne-FINISHED.false, c.loop-y-test.true, low)))
 
 pub seek_difference-returns-clause-finds : goal.seek_difference-returns-clause-finds
 seek_difference-returns-clause-finds t c =
     let w = goal.at.seek_difference-returns-clause-finds t c in
     let h = both_sought t w.Joined-x-ne-FINISHED (first_sought t w.Joined-member) in
-    λ u s. sym (holding_stop _ _ _ _ (λ same. omega (arith, same, c.loop-y-test.false))) ∙ c.loop-y.invariant.goes_on u s ∙ h.goes_on u s
+    λ u s. sym (holding_stop _ _ _ _ (λ same. omega (arith, same, c.loop-y-test.false))) ∙ c.loop-y.invariant.holds.goes_on u s ∙ h.holds.goes_on u s
 
 -- ---- a union
 
@@ -279,11 +279,11 @@ module _ (t : ℕ) where
   this_tree c = member_stands c.args.generator.now.ready _ (c.args.count - c.loop.counter) (omega (arith, c.loop-test.true)) c.loop.invariant.stand
 
   member_sought : (c : seek_union-Joined-member t) → c.loop.at < 48 → let g = c.args.generator.now in
-      Leaves g.numbers.now g.ends.now g.nodes.now c.loop.at c.args.to (apart c.loop.readers) c.match-member.x (apart c.match-member.readers)
+      LeavesTallied g.numbers.now g.ends.now g.nodes.now c.loop.at c.args.to (apart c.loop.readers) c.match-member.x (apart c.match-member.readers)
   member_sought c here = elim c.match-member.branch [
-    | seek_union-in-Still w ↦ rw (w.x-is, w.readers-is) (still _ _ _ _ _ _ c.loop.invariant.tallied _ w.in-Still.ensures)
-    | seek_union-in-Moved w ↦ rw (w.x-is, w.readers-is) (moves _ _ _ _ _ _ c.loop.invariant.tallied _ here w.in-Moved.ensures.1)
-    | seek_union-in-Operator w ↦ rw (w.x-is, w.readers-is) (left_by w.seek-s.ensures.sound w.seek-s.ensures.finds)
+    | seek_union-in-Still w ↦ rw (w.x-is, w.readers-is) (still_tallied _ _ _ _ _ _ c.loop.invariant.tallied _ w.in-Still.ensures)
+    | seek_union-in-Moved w ↦ rw (w.x-is, w.readers-is) (moves_tallied _ _ _ _ _ _ c.loop.invariant.tallied _ here w.in-Moved.ensures.1)
+    | seek_union-in-Operator w ↦ rw (w.x-is, w.readers-is) (left_tallied w.seek-s.ensures.sound w.seek-s.ensures.finds)
   ]
 
 pub seek_union-overflow_add-at : goal.seek_union-overflow_add-at
@@ -346,11 +346,11 @@ seek_union-loop-preserved t c =
     ] in
     rw fewer (record {
       behind_node = omega (arith, i.behind_node, goes_on g.ready _ s);
-      above = omega (arith, least, i.above, e.above);
+      above = omega (arith, least, i.above, e.leaves.above);
       low = omega (arith, least, i.low);
       tallied = e.tallied;
       stand = others_stand g.ready _ left some i.stand;
-      same = λ f on. i.same f (unites_on _ _ _ g.behind.now g.ready.table _ _ left _ some _ _ e.finds _ _ f i.low e.low least on);
+      same = λ f on. i.same f (unites_on _ _ _ g.behind.now g.ready.table _ _ left _ some _ _ e.leaves.finds _ _ f i.low e.leaves.low least on);
     })
 
 pub seek_union-returns-clause-finds : goal.seek_union-returns-clause-finds
@@ -372,24 +372,24 @@ module _ (t : ℕ) where
       c.loop-left.invariant.stage
 
   node_sought : (c : seek_intersection-Joined-member t) → c.loop-left.at < 48 → let g = c.args.generator.now in
-      Leaves g.numbers.now g.ends.now g.nodes.now c.loop-left.at c.loop-left.candidate (apart c.loop-left.readers) c.match-member.x (apart c.match-member.readers)
+      LeavesTallied g.numbers.now g.ends.now g.nodes.now c.loop-left.at c.loop-left.candidate (apart c.loop-left.readers) c.match-member.x (apart c.match-member.readers)
   node_sought c here = elim c.match-member.branch [
-    | seek_intersection-in-Still w ↦ rw (w.x-is, w.readers-is) (still _ _ _ _ _ _ c.loop-left.invariant.tallied _ w.in-Still.ensures)
-    | seek_intersection-in-Moved w ↦ rw (w.x-is, w.readers-is) (moves _ _ _ _ _ _ c.loop-left.invariant.tallied _ here w.in-Moved.ensures.1)
-    | seek_intersection-in-Operator w ↦ rw (w.x-is, w.readers-is) (left_by w.seek-s.ensures.sound w.seek-s.ensures.finds)
+    | seek_intersection-in-Still w ↦ rw (w.x-is, w.readers-is) (still_tallied _ _ _ _ _ _ c.loop-left.invariant.tallied _ w.in-Still.ensures)
+    | seek_intersection-in-Moved w ↦ rw (w.x-is, w.readers-is) (moves_tallied _ _ _ _ _ _ c.loop-left.invariant.tallied _ here w.in-Moved.ensures.1)
+    | seek_intersection-in-Operator w ↦ rw (w.x-is, w.readers-is) (left_tallied w.seek-s.ensures.sound w.seek-s.ensures.finds)
   ]
 
   -- where it is the first member node
   first_node_sought : (c : seek_intersection-Joined-member t) → c.loop-left.at < 48 → c.loop-left.at ≡ c.args.node + 1 → let g = c.args.generator.now in
-      Leaves g.numbers.now g.ends.now g.nodes.now (c.args.node + 1) c.loop-left.candidate (apart c.loop-left.readers) c.match-member.x (apart c.match-member.readers)
+      LeavesTallied g.numbers.now g.ends.now g.nodes.now (c.args.node + 1) c.loop-left.candidate (apart c.loop-left.readers) c.match-member.x (apart c.match-member.readers)
   first_node_sought c here h =
       let g = c.args.generator.now in
-      subst (λ (i : ℕ). Leaves g.numbers.now g.ends.now g.nodes.now i c.loop-left.candidate (apart c.loop-left.readers) c.match-member.x (apart c.match-member.readers)) h (node_sought c here)
+      subst (λ (i : ℕ). LeavesTallied g.numbers.now g.ends.now g.nodes.now i c.loop-left.candidate (apart c.loop-left.readers) c.match-member.x (apart c.match-member.readers)) h (node_sought c here)
 
   -- a higher answer is what the node and those behind it come to
   higher_answer : (c : seek_intersection-Joined-member t) → c.loop-left.at < 48 → c.loop-left.candidate < c.match-member.x → let g = c.args.generator.now in
       Comes (length g.ends.now) g.nodes.now (following (lists_from g.numbers.now 0 g.ends.now) c.loop-left.candidate) c.loop-left.at c.loop-left.left (apart c.loop-left.readers) (found c.match-member.x (apart c.match-member.readers))
-  higher_answer c here higher = follows_stop _ _ _ c.args.generator.now.behind.now c.args.generator.now.ready.table _ _ _ _ c.loop-left-test.true _ _ (node_sought c here).finds higher
+  higher_answer c here higher = follows_stop _ _ _ c.args.generator.now.behind.now c.args.generator.now.ready.table _ _ _ _ c.loop-left-test.true _ _ (node_sought c here).leaves.finds higher
 
 pub seek_intersection-overflow_add-first : goal.seek_intersection-overflow_add-first
 seek_intersection-overflow_add-first t c = omega (arith, inside c.args.generator.now.ready _ c.requires.standing)
@@ -433,15 +433,15 @@ seek_intersection-loop-left-preserved-then-x-eq-FINISHED t c =
     let i = c.loop-left.invariant in
     let ends = c.if-x-eq-FINISHED.true in
     record {
-      above = omega (arith, i.above, e.above);
-      low = e.low;
+      above = omega (arith, i.above, e.leaves.above);
+      low = e.leaves.low;
       tallied = e.tallied;
       stage = inr (inr (record {
         none_left = refl;
         same = λ u s. ⊎_elim
             (λ b.
             let v = every _ _ _ _ g.fit g.ready c.args.node c.args.count c.requires.node_value u s in
-            every-ended _ _ _ _ _ _ _ _ u v _ _ i.low i.tallied.many _ _ ((first_node_sought t w here b.first_now).finds v.first v.split_at.first_at) (omega (arith, ends)) ∙ b.same u s)
+            every-ended _ _ _ _ _ _ _ _ u v _ _ i.low i.tallied.many _ _ ((first_node_sought t w here b.first_now).leaves.finds v.first v.split_at.first_at) (omega (arith, ends)) ∙ b.same u s)
             (⊎_elim
             (λ b. sym (going-none _ _ _ _ (omega (arith, ends))) ∙ b.same _ (higher_answer t w here (omega (arith, ends, b.low))) u s)
             (λ b. absurd (omega (arith, b.none_left, c.loop-left-test.true))))
@@ -455,11 +455,11 @@ seek_intersection-loop-left-preserved-then-begins_again t c =
     let here = inside c.args.generator.now.ready _ (this_node t (goal.at.seek_intersection-loop-left-preserved-then-begins_again t c).In-loop-left).0 in
     let e = node_sought t w here in
     let i = c.loop-left.invariant in
-    let low = lt_of_le-ne e.low c.if-x-eq-FINISHED.false in
+    let low = lt_of_le-ne e.leaves.low c.if-x-eq-FINISHED.false in
     let higher = again_above _ _ _ _ _ c.begins_again.ensures c.if-begins_again.true in
     record {
-      above = omega (arith, i.above, e.above);
-      low = e.low;
+      above = omega (arith, i.above, e.leaves.above);
+      low = e.leaves.low;
       tallied = e.tallied;
       stage = inl (record {
         first_now = refl;
@@ -482,12 +482,12 @@ seek_intersection-loop-left-preserved t c =
     let e = node_sought t w here in
     let i = c.loop-left.invariant in
     let v = every _ _ _ _ g.fit g.ready c.args.node c.args.count c.requires.node_value _ c.requires.standing.stands in
-    let low = lt_of_le-ne e.low c.if-x-eq-FINISHED.false in
+    let low = lt_of_le-ne e.leaves.low c.if-x-eq-FINISHED.false in
     let later = goes_on g.ready _ at.0 in
     let within = Within g.numbers.now g.ends.now g.nodes.now c.args.node c.args.from (c.args.node + 1) (readers_of c.args.start) in
     record {
-      above = omega (arith, i.above, e.above);
-      low = e.low;
+      above = omega (arith, i.above, e.leaves.above);
+      low = e.leaves.low;
       tallied = e.tallied;
       stage = inr (inl (⊎_elim
           (λ b.
@@ -498,16 +498,16 @@ seek_intersection-loop-left-preserved t c =
             low = low;
             stand = record { trees = v.others; stand = v.split_at.others_at; many = omega (arith, v.many) };
             same = λ f on u s. let y = every _ _ _ _ g.fit g.ready c.args.node c.args.count c.requires.node_value u s in
-                every-begun _ _ _ _ _ _ _ _ u y _ _ i.low i.tallied.many _ _ ((first_node_sought t w here b.first_now).finds y.first y.split_at.first_at) low f on ∙ b.same u s;
+                every-begun _ _ _ _ _ _ _ _ u y _ _ i.low i.tallied.many _ _ ((first_node_sought t w here b.first_now).leaves.finds y.first y.split_at.first_at) low f on ∙ b.same u s;
           })))
           (⊎_elim
           (λ b.
-          let same : c.match-member.x ≡ c.loop-left.candidate = omega (arith, e.above, again_else c.loop-left.candidate c.match-member.x c.loop-left.at (c.args.node + 1) _ c.begins_again.ensures c.if-begins_again.false (λ first. omega (arith, first, b.behind_first))) in
+          let same : c.match-member.x ≡ c.loop-left.candidate = omega (arith, e.leaves.above, again_else c.loop-left.candidate c.match-member.x c.loop-left.at (c.args.node + 1) _ c.begins_again.ensures c.if-begins_again.false (λ first. omega (arith, first, b.behind_first))) in
           subst (λ (n : ℕ). within n (get_or g.behind.now c.loop-left.at 0) (c.loop-left.left - 1) (apart c.match-member.readers)) (sym same) (record {
             behind_first = omega (arith, later, b.behind_first);
             low = b.low;
             stand = others_stand g.ready _ _ c.loop-left-test.true b.stand;
-            same = λ f on. b.same f (follows_on _ _ _ g.behind.now g.ready.table _ _ _ _ c.loop-left-test.true _ _ e.finds f b.low same on);
+            same = λ f on. b.same f (follows_on _ _ _ g.behind.now g.ready.table _ _ _ _ c.loop-left-test.true _ _ e.leaves.finds f b.low same on);
           }))
           (λ b. absurd (omega (arith, b.none_left, c.loop-left-test.true))))
           i.stage));

@@ -3,7 +3,7 @@
 use Rattle.std.proofs.Common.{ℕ, ◌+◌, ◌-◌, ◌*◌}
 use Rattle.model.specs.Lists.{top}
 use Rattle.reader.proofs.Moves.{apart}
-use Rattle.seeks.proofs.Kept.{Increments, Intersects, Unites}
+use Rattle.seeks.proofs.Kept.{IncrementsTallied, Intersects, Unites}
 use Rattle.seeks.proofs.+seeks.Given as goal
 
 abbrev left_from : ℕ → ℕ
@@ -24,7 +24,7 @@ decreases-seek_union l = left_from l.node
 abbrev pub invariant-seek_difference-loop-y : goal.invariant-seek_difference-loop-y
 invariant-seek_difference-loop-y l =
     let g = l.generator in
-    Increments g.numbers.now g.ends.now g.nodes.now l.node (apart l.initial.readers) l.initial.x l.initial.y (apart l.readers) l.x l.y
+    IncrementsTallied g.numbers.now g.ends.now g.nodes.now l.node (apart l.initial.readers) l.initial.x l.initial.y (apart l.readers) l.x l.y
 
 abbrev pub decreases-seek_difference-loop-y : goal.decreases-seek_difference-loop-y
 decreases-seek_difference-loop-y l = top - l.x
