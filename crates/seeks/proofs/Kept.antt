@@ -23,6 +23,7 @@ abbrev pub Increments : (numbers ends nodes : List ℕ) → ℕ → Readers → 
 Increments numbers ends nodes node readers₀ x₀ y₀ readers x y =
     Holds numbers ends nodes node x₀ (λ u. holding (seek_tree (lists_from numbers 0 ends) u node) x₀ y₀ readers₀) x y readers
 
+-- and its readers are tallied
 abbrev pub IncrementsTallied : (numbers ends nodes : List ℕ) → ℕ → Readers → ℕ → ℕ → Readers → ℕ → ℕ → Type 0
 IncrementsTallied numbers ends nodes node readers₀ x₀ y₀ readers x y =
     HoldsTallied numbers ends nodes node x₀ (λ u. holding (seek_tree (lists_from numbers 0 ends) u node) x₀ y₀ readers₀) x y readers
@@ -84,6 +85,7 @@ increments numbers ends nodes node readers₀ x₀ y₀ readers x y inv same nex
   goes_on = λ u s. h.goes_on u s ∙ sym (holding-turn _ _ _ _ same) ∙ inv.goes_on u s;
 }
 
+-- and the readers stay tallied
 pub increments_tallied : (numbers ends nodes : List ℕ) (node : ℕ) (readers₀ : Readers) (x₀ y₀ : ℕ) (readers : Readers) (x y : ℕ) → IncrementsTallied numbers ends nodes node readers₀ x₀ y₀ readers x y → y ≡ x
     → (next y' : ℕ) (last : Readers) → HoldsTallied numbers ends nodes node (x + 1) (λ u. seek_tree (lists_from numbers 0 ends) u node (x + 1) readers) next y' last
     → IncrementsTallied numbers ends nodes node readers₀ x₀ y₀ last next y'
