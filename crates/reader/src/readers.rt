@@ -25,7 +25,7 @@ impl Readers {
     }
 
     // The reader of a node has made a step: it is where that leaves it, and its moves count. Hands back what it answers. For readers of
-    // a caller's own: a run passes its readers by value, as the papers have it, and each operator writes its own copy.
+    // a caller's own: no function that a run calls is lent its readers.
     pub fn take(&mut self, node: usize, read: ReadResult) -> u64
         requires node_in_bounds { node < 48 }
         requires within { get_or self.old.places node 0 + read.moves ≤ read.place }
@@ -42,25 +42,25 @@ impl Readers {
 mod tests {
     use super::*;
 
-    // Node 47 reads to the number 9 at place 5 by two moves, then to the end of its list, at place 7, by one more.
+    // Node 47 reads to the number 9 at place 66, by a hop and two single moves, then to the end of its list, one place further.
     #[test]
     fn takes_two_steps(rt: HostRuntime) {
         let mut readers = Readers::first();
         let nine = ReadResult {
             answer: 9,
-            moves: 2,
-            place: 5,
+            moves: 3,
+            place: 66,
         };
         assert_eq!(rt; readers.take(47, nine), 9);
         let place = readers.places[47];
-        assert_eq!(rt; (place, readers.moves), (5, 2));
+        assert_eq!(rt; (place, readers.moves), (66, 3));
         let end = ReadResult {
             answer: crate::FINISHED,
             moves: 1,
-            place: 7,
+            place: 67,
         };
         assert_eq!(rt; readers.take(47, end), crate::FINISHED);
         let (behind, place) = (readers.places[46], readers.places[47]);
-        assert_eq!(rt; (behind, place, readers.moves), (0, 7, 3));
+        assert_eq!(rt; (behind, place, readers.moves), (0, 67, 4));
     }
 }

@@ -82,15 +82,18 @@ pub record LeavesTallied (numbers ends nodes : List ℕ) (i e : ℕ) (start : Re
   pub tallied : AreTallied after
 
 module _ (numbers ends nodes : List ℕ) (i e : ℕ) (start : Readers) (t : AreTallied start) where
+  -- a list, whose reader stays
   pub still_tallied : (x : ℕ) → Named numbers ends (get_or nodes i 0) (λ l. Stays l (get_or start.places i 0) e x) → LeavesTallied numbers ends nodes i e start x start
   still_tallied x n = record { leaves = still numbers ends nodes i e start x n; tallied = t }
 
+  -- a list, whose reader moves
   pub moves_tallied : (r : ReadResult) → i < 48 → Named numbers ends (get_or nodes i 0) (λ l. Read l (get_or start.places i 0) e r) → LeavesTallied numbers ends nodes i e start r.answer (has_read i r start)
   moves_tallied r here n = record { leaves = moves numbers ends nodes i e start r n; tallied = stepped_tallied start i n.of here t }
 
-pub left_tallied : {numbers ends nodes : List ℕ} {i e : ℕ} {start : Readers} {r : SeekResult} → Sound e r
+-- an operator, which is sought
+pub left_by_tallied : {numbers ends nodes : List ℕ} {i e : ℕ} {start : Readers} {r : SeekResult} → Sound e r
     → ((u : Tree) → Stands (length ends) nodes u i → found_of r ≡ seek (lists_from numbers 0 ends) u i e start) → LeavesTallied numbers ends nodes i e start r.answer (readers_of r.readers)
-left_tallied {r = r} sound finds = record { leaves = left_by sound finds; tallied = r.readers.tallied }
+left_by_tallied {r = r} sound finds = record { leaves = left_by sound finds; tallied = r.readers.tallied }
 
 -- where the difference stands, and tallied readers
 pub record HoldsTallied (numbers ends nodes : List ℕ) (node e : ℕ) (f : Tree → Found) (x y : ℕ) (after : Readers) : Type 0 where
@@ -99,9 +102,11 @@ pub record HoldsTallied (numbers ends nodes : List ℕ) (node e : ℕ) (f : Tree
 
 module _ (numbers ends nodes behind : List ℕ) (n : Numbers numbers) (r : Ready numbers ends nodes behind) (node : ℕ) (k : node_of (get_or nodes node 0) ≡ accepted Difference)
     (e : ℕ) (low : e ≤ top) (start : Readers) (t : AreTallied start) (x : ℕ) (after : Readers) (a : LeavesTallied numbers ends nodes (node + 1) e start x after) where
-  pub ended_tallied : (y : ℕ) → top ≤ x → y < x → HoldsTallied numbers ends nodes node e (λ u. seek (lists_from numbers 0 ends) u node e start) x y after
-  ended_tallied y h apart = record { holds = holds_ended numbers ends nodes behind n r node k e low start t.many x after a.leaves y h apart; tallied = a.tallied }
+  -- the first has finished, which ends it
+  pub holds_ended_tallied : (y : ℕ) → top ≤ x → y < x → HoldsTallied numbers ends nodes node e (λ u. seek (lists_from numbers 0 ends) u node e start) x y after
+  holds_ended_tallied y h apart = record { holds = holds_ended numbers ends nodes behind n r node k e low start t.many x after a.leaves y h apart; tallied = a.tallied }
 
-  pub both_tallied : x < top → (y : ℕ) (last : Readers) → LeavesTallied numbers ends nodes (get_or behind (node + 1) 0) x after y last
+  -- the second has answered
+  pub holds_both_tallied : x < top → (y : ℕ) (last : Readers) → LeavesTallied numbers ends nodes (get_or behind (node + 1) 0) x after y last
       → HoldsTallied numbers ends nodes node e (λ u. seek (lists_from numbers 0 ends) u node e start) x y last
-  both_tallied h y last b = record { holds = holds_both numbers ends nodes behind n r node k e low start t.many x after a.leaves h y last b.leaves; tallied = b.tallied }
+  holds_both_tallied h y last b = record { holds = holds_both numbers ends nodes behind n r node k e low start t.many x after a.leaves h y last b.leaves; tallied = b.tallied }

@@ -18,7 +18,7 @@ use Rattle.reader.proofs.Moves.{apart, stepped_tallied, stepped-fits}
 use Rattle.reader.proofs.Members.{not_unknown, list-there, first_stands, second_stands, members_stand, inside, goes_on, member_stands, others_stand, Comes}
 use Rattle.seeks.proofs.Turns.{holding_stop, going-none, going_stop, going-turn, again_above, again_else}
 use Rattle.seeks.proofs.Nodes.{following, every, every-ended, every-begun, unite, unites_last, unites_on, follows_last, follows_stop, follows_on}
-use Rattle.seeks.proofs.Stepping.{LeavesTallied, still_tallied, moves_tallied, left_tallied, HoldsTallied, ended_tallied, both_tallied}
+use Rattle.seeks.proofs.Stepping.{LeavesTallied, still_tallied, moves_tallied, left_by_tallied, HoldsTallied, holds_ended_tallied, holds_both_tallied}
 use Rattle.seeks.proofs.Kept.{IncrementsTallied, next_low, increments_tallied, Within}
 use Rattle.seeks.proofs.+seeks.Goals as goal
 use Rattle.seeks.proofs.+seeks.Goals.{seek-After-read_list-r}
@@ -87,7 +87,7 @@ module _ (t : ℕ) where
   first_sought c = elim c.match-member.branch [
     | seek_difference-in-Still w ↦ rw (w.x-is, w.readers-is) (still_tallied _ _ _ _ _ _ c.args.start.tallied _ w.in-Still.ensures)
     | seek_difference-in-Moved w ↦ rw (w.x-is, w.readers-is) (moves_tallied _ _ _ _ _ _ c.args.start.tallied _ (first_inside c.args.generator.now.ready _ c.requires.node_value c.requires.standing) w.in-Moved.ensures.1)
-    | seek_difference-in-Operator w ↦ rw (w.x-is, w.readers-is) (left_tallied w.seek-s.ensures.sound w.seek-s.ensures.finds)
+    | seek_difference-in-Operator w ↦ rw (w.x-is, w.readers-is) (left_by_tallied w.seek-s.ensures.sound w.seek-s.ensures.finds)
   ]
 
   -- A3(2)(b): and the second to that answer
@@ -96,12 +96,12 @@ module _ (t : ℕ) where
       HoldsTallied g.numbers.now g.ends.now g.nodes.now c.args.node c.args.from (λ u. seek_tree (lists_from g.numbers.now 0 g.ends.now) u c.args.node c.args.from (readers_of c.args.start)) c.match-member.x c.if-x-ne-FINISHED.y (apart c.if-x-ne-FINISHED.readers)
   both_sought c f =
       let g = c.args.generator.now in
-      let ended = ended_tallied _ _ _ _ g.fit g.ready c.args.node c.requires.node_value c.args.from c.requires.from_le_top (readers_of c.args.start) c.args.start.tallied _ _ f in
-      let both = both_tallied _ _ _ _ g.fit g.ready c.args.node c.requires.node_value c.args.from c.requires.from_le_top (readers_of c.args.start) c.args.start.tallied _ _ f in
+      let ended = holds_ended_tallied _ _ _ _ g.fit g.ready c.args.node c.requires.node_value c.args.from c.requires.from_le_top (readers_of c.args.start) c.args.start.tallied _ _ f in
+      let both = holds_both_tallied _ _ _ _ g.fit g.ready c.args.node c.requires.node_value c.args.from c.requires.from_le_top (readers_of c.args.start) c.args.start.tallied _ _ f in
       elim c.if-x-ne-FINISHED.branch [
         | seek_difference-then-x-ne-FINISHED+in-Still-member w ↦ rw (w.y-is, w.readers-is) (both (omega (arith, f.leaves.low, w.if-x-ne-FINISHED.true)) _ _ (still_tallied _ _ _ _ _ _ f.tallied _ w.in-Still-member.ensures))
         | seek_difference-then-x-ne-FINISHED+in-Moved-member w ↦ rw (w.y-is, w.readers-is) (both (omega (arith, f.leaves.low, w.if-x-ne-FINISHED.true)) _ _ (moves_tallied _ _ _ _ _ _ f.tallied _ (second_inside c.args.generator.now.ready _ c.requires.node_value c.requires.standing) w.in-Moved-member.ensures.1))
-        | seek_difference-then-x-ne-FINISHED+in-Operator-member w ↦ rw (w.y-is, w.readers-is) (both (omega (arith, f.leaves.low, w.if-x-ne-FINISHED.true)) _ _ (left_tallied w.seek-s-in-Operator-member.ensures.sound w.seek-s-in-Operator-member.ensures.finds))
+        | seek_difference-then-x-ne-FINISHED+in-Operator-member w ↦ rw (w.y-is, w.readers-is) (both (omega (arith, f.leaves.low, w.if-x-ne-FINISHED.true)) _ _ (left_by_tallied w.seek-s-in-Operator-member.ensures.sound w.seek-s-in-Operator-member.ensures.finds))
         | seek_difference-else-x-ne-FINISHED w ↦ rw (w.y-is, w.readers-is) (ended _ (omega (arith, w.if-x-ne-FINISHED.false)) (omega (arith, w.if-x-ne-FINISHED.false)))
       ]
 
@@ -111,7 +111,7 @@ module _ (t : ℕ) where
   next_sought c = elim c.match-member-3.branch [
     | seek_difference-in-Still-member-2 w ↦ rw (w.next-is, w.readers-is) (still_tallied _ _ _ _ _ _ c.loop-y.invariant.tallied _ w.in-Still-member-2.ensures)
     | seek_difference-in-Moved-member-2 w ↦ rw (w.next-is, w.readers-is) (moves_tallied _ _ _ _ _ _ c.loop-y.invariant.tallied _ (first_inside c.args.generator.now.ready _ c.requires.node_value c.requires.standing) w.in-Moved-member-2.ensures.1)
-    | seek_difference-in-Operator-member-2 w ↦ rw (w.next-is, w.readers-is) (left_tallied w.seek-s-in-Operator-member-2.ensures.sound w.seek-s-in-Operator-member-2.ensures.finds)
+    | seek_difference-in-Operator-member-2 w ↦ rw (w.next-is, w.readers-is) (left_by_tallied w.seek-s-in-Operator-member-2.ensures.sound w.seek-s-in-Operator-member-2.ensures.finds)
   ]
 
   -- A2(2)(b): and the second to that, where the first has not finished, or is not asked
@@ -123,7 +123,7 @@ module _ (t : ℕ) where
     again_sought y last second low =
         let g = c.args.generator.now in
         increments_tallied _ _ _ _ _ _ _ _ _ _ c.loop-y.invariant c.loop-y-test.true _ _ _
-        (both_tallied _ _ _ _ g.fit g.ready c.args.node c.requires.node_value (c.loop-y.x + 1) (next_low c.loop-y.invariant.holds c.loop-y-test.true) _ c.loop-y.invariant.tallied _ _ (next_sought c) low y last second)
+        (holds_both_tallied _ _ _ _ g.fit g.ready c.args.node c.requires.node_value (c.loop-y.x + 1) (next_low c.loop-y.invariant.holds c.loop-y-test.true) _ c.loop-y.invariant.tallied _ _ (next_sought c) low y last second)
 
 pub seek_difference-overflow_add-first : goal.seek_difference-overflow_add-first
 seek_difference-overflow_add-first t c = omega (arith, inside c.args.generator.now.ready _ c.requires.standing)
@@ -256,7 +256,7 @@ seek_difference-loop-y-preserved-in-Moved-member-3 t c =
 pub seek_difference-loop-y-preserved-in-Operator-member-3 : goal.seek_difference-loop-y-preserved-in-Operator-member-3
 seek_difference-loop-y-preserved-in-Operator-member-3 t c =
     let w = (goal.at.seek_difference-loop-y-preserved-in-Operator-member-3 t c).Joined-member-3 in
-    again_sought t w _ _ (left_tallied c.seek-s-in-Operator-member-3.ensures.sound c.seek-s-in-Operator-member-3.ensures.finds) (omega (arith, (next_sought t w).leaves.low, c.if-next-ne-FINISHED.true))
+    again_sought t w _ _ (left_by_tallied c.seek-s-in-Operator-member-3.ensures.sound c.seek-s-in-Operator-member-3.ensures.finds) (omega (arith, (next_sought t w).leaves.low, c.if-next-ne-FINISHED.true))
 
 pub seek_difference-loop-y-preserved : goal.seek_difference-loop-y-preserved
 seek_difference-loop-y-preserved t c =
@@ -264,7 +264,7 @@ seek_difference-loop-y-preserved t c =
     let low : c.loop-y.x + 1 ≤ top = next_low c.loop-y.invariant.holds c.loop-y-test.true in
     let w = (goal.at.seek_difference-loop-y-preserved t c).Joined-member-3 in
     increments_tallied _ _ _ _ _ _ _ _ _ _ c.loop-y.invariant c.loop-y-test.true _ _ _
-    (ended_tallied _ _ _ _ g.fit g.ready c.args.node c.requires.node_value (c.loop-y.x + 1) low _ c.loop-y.invariant.tallied _ _ (next_sought t w) _ (omega (arith, c.if-next-ne-FINISHED.false)) (omega (arith, c.if-next-ne-FINISHED.false, c.loop-y-test.true, low)))
+    (holds_ended_tallied _ _ _ _ g.fit g.ready c.args.node c.requires.node_value (c.loop-y.x + 1) low _ c.loop-y.invariant.tallied _ _ (next_sought t w) _ (omega (arith, c.if-next-ne-FINISHED.false)) (omega (arith, c.if-next-ne-FINISHED.false, c.loop-y-test.true, low)))
 
 pub seek_difference-returns-clause-finds : goal.seek_difference-returns-clause-finds
 seek_difference-returns-clause-finds t c =
@@ -283,7 +283,7 @@ module _ (t : ℕ) where
   member_sought c here = elim c.match-member.branch [
     | seek_union-in-Still w ↦ rw (w.x-is, w.readers-is) (still_tallied _ _ _ _ _ _ c.loop.invariant.tallied _ w.in-Still.ensures)
     | seek_union-in-Moved w ↦ rw (w.x-is, w.readers-is) (moves_tallied _ _ _ _ _ _ c.loop.invariant.tallied _ here w.in-Moved.ensures.1)
-    | seek_union-in-Operator w ↦ rw (w.x-is, w.readers-is) (left_tallied w.seek-s.ensures.sound w.seek-s.ensures.finds)
+    | seek_union-in-Operator w ↦ rw (w.x-is, w.readers-is) (left_by_tallied w.seek-s.ensures.sound w.seek-s.ensures.finds)
   ]
 
 pub seek_union-overflow_add-at : goal.seek_union-overflow_add-at
@@ -376,7 +376,7 @@ module _ (t : ℕ) where
   node_sought c here = elim c.match-member.branch [
     | seek_intersection-in-Still w ↦ rw (w.x-is, w.readers-is) (still_tallied _ _ _ _ _ _ c.loop-left.invariant.tallied _ w.in-Still.ensures)
     | seek_intersection-in-Moved w ↦ rw (w.x-is, w.readers-is) (moves_tallied _ _ _ _ _ _ c.loop-left.invariant.tallied _ here w.in-Moved.ensures.1)
-    | seek_intersection-in-Operator w ↦ rw (w.x-is, w.readers-is) (left_tallied w.seek-s.ensures.sound w.seek-s.ensures.finds)
+    | seek_intersection-in-Operator w ↦ rw (w.x-is, w.readers-is) (left_by_tallied w.seek-s.ensures.sound w.seek-s.ensures.finds)
   ]
 
   -- where it is the first member node
