@@ -25,7 +25,7 @@ impl Readers {
     }
 
     // The reader of a node has made a step: it is where that leaves it, and its moves count. Hands back what it answers. For readers of
-    // a caller's own: no function that a run calls is lent its readers.
+    // a caller's own: nothing here but the test calls it.
     pub fn take(&mut self, node: usize, read: ReadResult) -> u64
         requires node_in_bounds { node < 48 }
         requires within { get_or self.old.places node 0 + read.moves ≤ read.place }
@@ -42,16 +42,16 @@ impl Readers {
 mod tests {
     use super::*;
 
-    // Node 47 reads to the number 9 at place 66, by a hop and two single moves, then to the end of its list, one place further.
+    // Node 47 reads to the number 99 at place 66, by a hop and two single moves, then to the end of its list, one place further.
     #[test]
     fn takes_two_steps(rt: HostRuntime) {
         let mut readers = Readers::first();
-        let nine = ReadResult {
-            answer: 9,
+        let read = ReadResult {
+            answer: 99,
             moves: 3,
             place: 66,
         };
-        assert_eq!(rt; readers.take(47, nine), 9);
+        assert_eq!(rt; readers.take(47, read), 99);
         let place = readers.places[47];
         assert_eq!(rt; (place, readers.moves), (66, 3));
         let end = ReadResult {

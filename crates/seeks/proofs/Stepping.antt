@@ -1,5 +1,5 @@
 -- The step of a member node in its operator's own copy of the readers: what it leaves is what the seek of that node leaves. And where
--- a difference stands after two such steps. Both of any readers, then of readers that are tallied. Assumes nothing.
+-- a difference stands after two such steps. Of any readers (a difference's with 48 places), then of tallied ones. Assumes nothing.
 use mathlib.Core.Path.{◌≡◌, refl, ◌∙◌}
 use mathlib.Core.List.{List}
 use Prim.Native.Nat.{ℕ, ◌+◌, ◌≤◌, ◌<◌}
